@@ -1,0 +1,17 @@
+-- Sums and counts over the places 0, 1, 2 … Assumes nothing.
+use mathlib.Core.Bool.{Bool, true, false}
+use Prim.Native.Nat.{ℕ, zero, suc, _+_}
+
+-- f 0 + f 1 + … + f (n - 1)
+abbrev pub total : (ℕ → ℕ) → ℕ → ℕ
+total f zero = 0
+total f (suc n) = total f n + f n
+
+-- 1 where a test passes, else 0
+abbrev pub oneIf : Bool → ℕ
+oneIf true = 1
+oneIf false = 0
+
+-- how many of the places 0 … n - 1 pass
+abbrev pub count : (ℕ → Bool) → ℕ → ℕ
+count p n = total (λ k. oneIf (p k)) n

@@ -1,0 +1,5 @@
+pub mod Ranks
+pub mod Shares
+pub mod Near
+pub mod Fairness
+pub mod Summed

@@ -1,0 +1,4 @@
+pub mod Faults
+pub mod Amounts
+pub mod Split
+pub mod Laws
