@@ -1,2 +1,5 @@
 pub mod Order
 pub mod Adds
+pub mod Values
+pub mod Posts
+pub mod Activities

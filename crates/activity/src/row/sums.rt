@@ -1,11 +1,14 @@
 // What a record adds to a row, and what the row counts.
 ghost use mathlib.Core.Path.{_≡_};
 ghost use mathlib.Core.Bool.{true, false};
-ghost use Prim.Native.Nat.{_<_, _≤_};
-ghost use lib.IntN.{pos, natAbs};
+ghost use Prim.Native.Nat.{_<_};
 ghost use lib.Signed.{nonNeg};
 ghost use Rattle.foundation.specs.Questions.{after};
+ghost use Rattle.activity.specs.declared.determinant.Determinant.the-variants.{Mebl};
+ghost use Rattle.activity.specs.declared.determinant.Group.the-variants.{Load, CongestionRights};
 ghost use Rattle.activity.specs.declared.row.place.Place.the-variants.{Energy, Interval};
+ghost use Rattle.activity.specs.Activity.{counted, rowValue};
+ghost use Rattle.activity.specs.Counts.{Counts};
 ghost use Rattle.activity.specs.Determinants.{facts};
 ghost use Rattle.activity.specs.Ruled.{signAllowed};
 ghost use Rattle.activity.specs.Rows.{keptIn, keptAt, sumsOf};
@@ -16,9 +19,11 @@ use super::Row;
 use super::place::Place;
 use super::place::place_of;
 use crate::determinant::Determinant;
+use crate::determinant::Group;
 use crate::fault::Fault;
 use crate::units::KilowattHours;
 use crate::units::KilowattQuarterHours;
+use crate::units::Quarters;
 
 impl Row {
     pub(crate) fn empty() -> Row
@@ -54,5 +59,44 @@ impl Row {
         ensures natural { λ r. ⌜ nonNeg (kWQuarterHours r) ≡ true ⌝ }
     {
         self.intervals[k]
+    }
+
+    // What the sum of a determinant counts: that of determinant 3 as the larger of 0 and itself, that of determinant 4 with its sign reversed.
+    pub(crate) fn counted(&self, determinant: Determinant) -> Quarters
+        ensures { λ r. ⌜ Counts (counted (sumsOf (now (self .entry))) determinant) 8000000000 (determinant ≡ Mebl → ⊥) (quartersIn r) ⌝ }
+    {
+        match place_of(determinant) {
+            Place::Interval(k) => self.interval_at(k).quarters(),
+            Place::Energy(k) => match determinant {
+                Determinant::Rtamlexsecm => self.energy_at(k).clipped().quarters(),
+                Determinant::Mebl => self.energy_at(k).reversed().quarters(),
+                _ => self.energy_at(k).quarters(),
+            },
+        }
+    }
+
+    // What the row counts in a group.
+    pub(crate) fn value(&self, group: Group) -> Quarters
+        ensures { λ r. ⌜ Counts (rowValue group (sumsOf (now (self .entry)))) 32000000000 (group ≡ Load → ⊥) (quartersIn r) ⌝ }
+    {
+        match group {
+            Group::Generation => self.counted(Determinant::Rtmg).plus(self.counted(Determinant::Rtdcimp)),
+            Group::Load => self.counted(Determinant::Rtamlexsecm).plus(self.counted(Determinant::Mebl)),
+            Group::Sales => self.counted(Determinant::Rtqqes),
+            Group::Purchases => self.counted(Determinant::Rtqqep),
+            Group::DayAheadSales => self.counted(Determinant::Daes),
+            Group::DayAheadPurchases => self.counted(Determinant::Daep),
+            Group::RealTimeObligations => self.counted(Determinant::Rtobl).plus(self.counted(Determinant::Rtobllo)),
+            Group::CongestionRights => self.congestion_rights(),
+            Group::CongestionRightPurchases => self.counted(Determinant::Optp).plus(self.counted(Determinant::Oblp)),
+        }
+    }
+
+    fn congestion_rights(&self) -> Quarters
+        ensures { λ r. ⌜ Counts (rowValue CongestionRights (sumsOf (now (self .entry)))) 32000000000 (CongestionRights ≡ Load → ⊥) (quartersIn r) ⌝ }
+    {
+        let owned = self.counted(Determinant::Opt).plus(self.counted(Determinant::Daobl));
+        let sold = self.counted(Determinant::Opts).plus(self.counted(Determinant::Obls));
+        owned.plus(sold)
     }
 }
