@@ -14,7 +14,7 @@ use Rattle.std.proofs.shelf.Counted.{map-counting-more}
 use Rattle.std.proofs.shelf.Signed.{ints, clamps}
 use Rattle.std.proofs.shelf.Sums.{folded-push}
 use Rattle.std.proofs.shelf.Tests.{cond-true, cond-false}
-use Rattle.activity.specs.declared.determinant.Group.{Group}
+use Rattle.records.specs.declared.determinant.Group.{Group}
 use Rattle.activity.specs.Activity.{totalTo, isUnder, share, rowValue}
 use Rattle.activity.specs.Counts.{Counts}
 use Rattle.activity.specs.Sums.{Sums, noSums}

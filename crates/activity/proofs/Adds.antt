@@ -9,14 +9,14 @@ use lib.ListN.{length, getD, set}
 use lib.Signed.{nonNeg}
 use Rattle.std.specs.declared.result.Result.the-variants.{Ok, Err}
 use Rattle.std.proofs.shelf.Tests.{cond-true, cond-false}
-use Rattle.activity.specs.declared.determinant.Determinant.{Determinant}
-use Rattle.activity.specs.declared.determinant.Determinant.the-variants.{Rtmg, Rtdcimp, Rtamlexsecm, Mebl, Rtqqes, Rtqqep, Daes, Daep, Rtobl, Rtobllo, Opt, Daobl, Opts, Obls, Optp, Oblp}
-use Rattle.activity.specs.declared.fault.Fault.{Fault}
-use Rattle.activity.specs.declared.fault.Fault.the-variants.{Sum}
+use Rattle.records.specs.declared.determinant.Determinant.{Determinant}
+use Rattle.records.specs.declared.determinant.Determinant.the-variants.{Rtmg, Rtdcimp, Rtamlexsecm, Mebl, Rtqqes, Rtqqep, Daes, Daep, Rtobl, Rtobllo, Opt, Daobl, Opts, Obls, Optp, Oblp}
+use Rattle.records.specs.declared.fault.Fault.{Fault}
+use Rattle.records.specs.declared.fault.Fault.the-variants.{Sum}
 use Rattle.activity.specs.declared.row.place.Place.{Place}
 use Rattle.activity.specs.declared.row.place.Place.the-variants.{Energy, Interval}
-use Rattle.activity.specs.Determinants.{facts}
-use Rattle.activity.specs.Ruled.{signAllowed}
+use Rattle.records.specs.Determinants.{facts}
+use Rattle.records.specs.Ruled.{signAllowed}
 use Rattle.activity.specs.Rows.{place, Kept, keptAt, inOrder}
 use Rattle.activity.specs.Signs.{Signs, energySigned}
 use Rattle.activity.specs.Sums.{Sums, sumOf, added, addAnswer}

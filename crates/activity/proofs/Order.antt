@@ -6,11 +6,11 @@ use Prim.Native.Nat.{ℕ, _-_}
 use native.Mathlib.Omega.{arith}
 use lib.IntN.{ℤ}
 use lib.ListN.{length, set}
-use Rattle.activity.specs.declared.determinant.Determinant.{Determinant}
-use Rattle.activity.specs.declared.determinant.Determinant.the-variants.{Rtmg, Rtdcimp, Rtamlexsecm, Mebl, Rtqqes, Rtqqep, Daes, Daep, Rtobl, Rtobllo, Opt, Daobl, Opts, Obls, Optp, Oblp}
+use Rattle.records.specs.declared.determinant.Determinant.{Determinant}
+use Rattle.records.specs.declared.determinant.Determinant.the-variants.{Rtmg, Rtdcimp, Rtamlexsecm, Mebl, Rtqqes, Rtqqep, Daes, Daep, Rtobl, Rtobllo, Opt, Daobl, Opts, Obls, Optp, Oblp}
 use Rattle.activity.specs.declared.row.place.Place.{Place}
 use Rattle.activity.specs.declared.row.place.Place.the-variants.{Energy, Interval}
-use Rattle.activity.specs.Determinants.{facts}
+use Rattle.records.specs.Determinants.{facts}
 use Rattle.activity.specs.Rows.{place, Kept, keptAt, inOrder}
 use Rattle.activity.specs.Sums.{sumOf}
 

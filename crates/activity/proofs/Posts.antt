@@ -12,17 +12,17 @@ use Rattle.std.specs.declared.option.Option.{Option}
 use Rattle.std.specs.declared.option.Option.the-variants.{Some}
 use Rattle.std.specs.declared.result.Result.{Result}
 use Rattle.std.specs.declared.result.Result.the-variants.{Ok, Err}
-use Rattle.activity.specs.declared.determinant.Determinant.{Determinant}
-use Rattle.activity.specs.declared.fault.Fault.{Fault}
-use Rattle.activity.specs.declared.fault.Fault.the-variants as fault
+use Rattle.records.specs.declared.determinant.Determinant.{Determinant}
+use Rattle.records.specs.declared.fault.Fault.{Fault}
+use Rattle.records.specs.declared.fault.Fault.the-variants as fault
 use Rattle.activity.specs.declared.row.Row.{Row}
-use Rattle.activity.specs.declared.ruling.Mark.{Mark}
-use Rattle.activity.specs.declared.ruling.Mark.the-variants.{RmrResource, RucInterval}
-use Rattle.activity.specs.declared.ruling.Ruling.{Ruling}
-use Rattle.activity.specs.declared.ruling.Ruling.the-variants.{Counted, Excluded}
-use Rattle.activity.specs.Determinants.{numbered}
+use Rattle.records.specs.declared.ruling.Mark.{Mark}
+use Rattle.records.specs.declared.ruling.Mark.the-variants.{RmrResource, RucInterval}
+use Rattle.records.specs.declared.ruling.Ruling.{Ruling}
+use Rattle.records.specs.declared.ruling.Ruling.the-variants.{Counted, Excluded}
+use Rattle.records.specs.Determinants.{numbered}
 use Rattle.activity.specs.Rows.{sumsOf}
-use Rattle.activity.specs.Ruled.{markAllowed, signAllowed, ruled, ruling}
+use Rattle.records.specs.Ruled.{markAllowed, signAllowed, ruled, ruling}
 use Rattle.activity.specs.Sums.{Sums, noSums, sumOf, added, addAnswer}
 use Rattle.activity.specs.Tables.{TableMeaning, carries, postAnswer, posted}
 use Rattle.activity.specs.Units.{within}

@@ -8,15 +8,15 @@ use lib.IntN.{ℤ, pos, negsuc, natAbs, negℤ, _+ℤ_, _*ℤ_}
 use lib.Signed.{nonNeg, _≤ℤ_}
 use Rattle.std.specs.Numbers.{maxZ}
 use Rattle.std.proofs.shelf.Signed.{ints, clamps}
-use Rattle.activity.specs.declared.determinant.Determinant.{Determinant}
-use Rattle.activity.specs.declared.determinant.Determinant.the-variants.{Rtmg, Rtdcimp, Rtamlexsecm, Mebl, Rtqqes, Rtqqep, Daes, Daep, Rtobl, Rtobllo, Opt, Daobl, Opts, Obls, Optp, Oblp}
-use Rattle.activity.specs.declared.determinant.Group.{Group}
-use Rattle.activity.specs.declared.determinant.Group.the-variants.{Generation, Load, Sales, Purchases, DayAheadSales, DayAheadPurchases, RealTimeObligations, CongestionRights, CongestionRightPurchases}
+use Rattle.records.specs.declared.determinant.Determinant.{Determinant}
+use Rattle.records.specs.declared.determinant.Determinant.the-variants.{Rtmg, Rtdcimp, Rtamlexsecm, Mebl, Rtqqes, Rtqqep, Daes, Daep, Rtobl, Rtobllo, Opt, Daobl, Opts, Obls, Optp, Oblp}
+use Rattle.records.specs.declared.determinant.Group.{Group}
+use Rattle.records.specs.declared.determinant.Group.the-variants.{Generation, Load, Sales, Purchases, DayAheadSales, DayAheadPurchases, RealTimeObligations, CongestionRights, CongestionRightPurchases}
 use Rattle.activity.specs.declared.row.place.Place.{Place}
 use Rattle.activity.specs.declared.row.place.Place.the-variants.{Energy, Interval}
 use Rattle.activity.specs.Activity.{counted, rowValue}
 use Rattle.activity.specs.Counts.{Counts}
-use Rattle.activity.specs.Determinants.{facts, Entry, plain, clipped, reversed, entered, quarters}
+use Rattle.records.specs.Determinants.{facts, Entry, plain, clipped, reversed, entered, quarters}
 use Rattle.activity.specs.Rows.{place, Kept, keptAt, inOrder}
 use Rattle.activity.specs.Signs.{energySigned}
 use Rattle.activity.specs.Sums.{Sums, sumOf}

@@ -1,17 +1,22 @@
 -- The activity of a Counter-Party: the largest of its nine group values, in quarters of a kWh. Assumes nothing.
 use mathlib.Core.Bool.{Bool, cond, _&&_}
 use mathlib.Core.List.{List, [], _∷_, map}
-use Prim.Native.Nat.{ℕ, zero, suc}
+use Prim.Native.Nat.{ℕ, zero, suc, _-_}
 use lib.Dec.{eqb, ltb}
 use lib.IntN.{ℤ, pos, natAbs, _+ℤ_}
 use lib.ListN.{length, getD}
 use Rattle.std.specs.Iters.{counting, folded}
 use Rattle.std.specs.Numbers.{maxZ}
 use Rattle.std.specs.shelf.Lists.{kept-by}
-use Rattle.activity.specs.declared.determinant.Determinant.{Determinant}
-use Rattle.activity.specs.declared.determinant.Group.{Group}
-use Rattle.activity.specs.Determinants.{facts, determinants, groups, groupNumber, entered, quarters}
+use Rattle.records.specs.declared.determinant.Determinant.{Determinant}
+use Rattle.records.specs.declared.determinant.Group.{Group}
+use Rattle.records.specs.declared.determinant.Group.the-variants.{Generation}
+use Rattle.records.specs.Determinants.{facts, determinants, groups, groupNumber, entered, quarters}
 use Rattle.activity.specs.Sums.{Sums, noSums, sumOf}
+
+-- the group of a number from 1 to 9
+abbrev pub groupNumbered : ℕ → Group
+groupNumbered n = getD groups (n - 1) Generation
 
 -- what a participant's sum of a determinant counts
 unfoldable pub counted : Sums → Determinant → ℤ

@@ -3,12 +3,12 @@ use mathlib.Core.List.{List, map}
 use Prim.Native.Nat.{ℕ, _<_}
 use lib.IntN.{ℤ, pos}
 use lib.ListN.{getD}
-use Rattle.activity.specs.declared.determinant.Determinant.{Determinant}
-use Rattle.activity.specs.declared.determinant.Determinant.the-variants.{Rtmg, Rtdcimp, Rtamlexsecm, Mebl, Rtqqes, Rtqqep, Daes, Daep, Rtobl, Rtobllo, Opt, Daobl, Opts, Obls, Optp, Oblp}
+use Rattle.records.specs.declared.determinant.Determinant.{Determinant}
+use Rattle.records.specs.declared.determinant.Determinant.the-variants.{Rtmg, Rtdcimp, Rtamlexsecm, Mebl, Rtqqes, Rtqqep, Daes, Daep, Rtobl, Rtobllo, Opt, Daobl, Opts, Obls, Optp, Oblp}
 use Rattle.activity.specs.declared.row.Row.{Row}
 use Rattle.activity.specs.declared.row.place.Place.{Place}
 use Rattle.activity.specs.declared.row.place.Place.the-variants.{Energy, Interval}
-use Rattle.activity.specs.Determinants.{determinants}
+use Rattle.records.specs.Determinants.{determinants}
 use Rattle.activity.specs.Sums.{Sums}
 
 -- where a determinant's sum is kept: among the thirteen in kWh, or among the three in kW over 15 minutes

@@ -5,10 +5,10 @@ use lib.IntN.{ℤ, pos, _+ℤ_}
 use lib.ListN.{getD, set, replicate}
 use Rattle.std.specs.declared.result.Result.{Result}
 use Rattle.foundation.specs.Questions.{asks, verdict}
-use Rattle.activity.specs.declared.determinant.Determinant.{Determinant}
-use Rattle.activity.specs.declared.fault.Fault.{Fault}
-use Rattle.activity.specs.declared.fault.Fault.the-variants as fault
-use Rattle.activity.specs.Determinants.{facts}
+use Rattle.records.specs.declared.determinant.Determinant.{Determinant}
+use Rattle.records.specs.declared.fault.Fault.{Fault}
+use Rattle.records.specs.declared.fault.Fault.the-variants as fault
+use Rattle.records.specs.Determinants.{facts}
 use Rattle.activity.specs.Units.{within}
 
 -- by rising number of the determinant

@@ -11,15 +11,15 @@ use Rattle.std.specs.declared.option.Option.the-variants.{Some, None}
 use Rattle.std.specs.declared.result.Result.{Result}
 use Rattle.foundation.specs.Limits.{mostParticipants}
 use Rattle.foundation.specs.Questions.{Question, asks, verdict}
-use Rattle.activity.specs.declared.fault.Fault.{Fault}
-use Rattle.activity.specs.declared.fault.Fault.the-variants as fault
-use Rattle.activity.specs.declared.ruling.Ruling.{Ruling}
+use Rattle.records.specs.declared.fault.Fault.{Fault}
+use Rattle.records.specs.declared.fault.Fault.the-variants as fault
+use Rattle.records.specs.declared.ruling.Ruling.{Ruling}
 use Rattle.activity.specs.declared.table.Table.{Table}
 use Rattle.activity.specs.declared.table.Collecting.{Collecting}
 use Rattle.activity.specs.declared.table.Closed.{Closed}
-use Rattle.activity.specs.Determinants.{numbered}
+use Rattle.records.specs.Determinants.{numbered}
 use Rattle.activity.specs.Rows.{sumsOf}
-use Rattle.activity.specs.Ruled.{recordAsks, ruling}
+use Rattle.records.specs.Ruled.{recordAsks, ruling}
 use Rattle.activity.specs.Sums.{Sums, noSums, sumOf, added}
 use Rattle.activity.specs.Units.{within}
 

@@ -6,8 +6,8 @@ use lib.IntN.{ℤ, natAbs, _+ℤ_}
 use Rattle.std.specs.declared.result.Result.{Result}
 use Rattle.foundation.specs.Limits.{mostSum}
 use Rattle.foundation.specs.Questions.{asks, verdict}
-use Rattle.activity.specs.declared.fault.Fault.{Fault}
-use Rattle.activity.specs.declared.fault.Fault.the-variants as fault
+use Rattle.records.specs.declared.fault.Fault.{Fault}
+use Rattle.records.specs.declared.fault.Fault.the-variants as fault
 use Rattle.activity.specs.declared.units.KilowattHours.{KilowattHours}
 use Rattle.activity.specs.declared.units.KilowattQuarterHours.{KilowattQuarterHours}
 use Rattle.activity.specs.declared.units.Quarters.{Quarters}

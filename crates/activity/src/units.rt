@@ -3,19 +3,19 @@ ghost use Prim.Native.Nat.{_≤_};
 ghost use lib.IntN.{natAbs};
 mod calls;
 
-#[derive(Clone, Copy, PartialEq, Eq, Debug)]
+#[derive(Clone, Copy)]
 pub struct KilowattHours {
     sum: i64,
     ghost within: { natAbs sum ≤ 2000000000 },
 }
 
-#[derive(Clone, Copy, PartialEq, Eq, Debug)]
+#[derive(Clone, Copy)]
 pub struct KilowattQuarterHours {
     sum: i64,
     ghost within: { natAbs sum ≤ 2000000000 },
 }
 
-#[derive(Clone, Copy, PartialEq, Eq, Debug)]
+#[derive(Clone, Copy)]
 pub struct Quarters {
     count: i64,
 }

@@ -2,7 +2,7 @@
 ghost use Prim.Native.Nat.{_≤_};
 mod calls;
 
-#[derive(Clone, Copy, PartialEq, Eq, Debug)]
+#[derive(Clone, Copy)]
 pub struct Amount {
     cents: u64,
     ghost some: { 1 ≤ cents },

@@ -1,7 +1,7 @@
 // Where a row keeps the sum of a determinant.
 ghost use mathlib.Core.Path.{_≡_};
 ghost use Rattle.activity.specs.Rows.{place as placeOf, PlaceOk};
-use crate::determinant::Determinant;
+use records::Determinant;
 
 #[derive(Clone, Copy)]
 pub(crate) enum Place {

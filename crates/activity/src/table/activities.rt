@@ -1,23 +1,43 @@
 // What the Counter-Parties count. `parties` has the position of each participant's Counter-Party, in order of enrolment.
 ghost use mathlib.Core.Path.{_≡_};
+ghost use Prim.Native.Nat.{_≤_};
 ghost use lib.IntN.{pos};
 ghost use lib.ListN.{length};
 ghost use Rattle.foundation.specs.Questions.{after};
-ghost use Rattle.activity.specs.declared.determinant.Group.the-variants.{Load};
-ghost use Rattle.activity.specs.Activity.{isUnder, groupValue, groupValues, largest, activity as quartersOf, activities as quartersOfAll};
+ghost use Rattle.records.specs.declared.determinant.Group.the-variants.{Load};
+ghost use Rattle.activity.specs.Activity.{groupNumbered, isUnder, groupValue, groupValues, largest, activity as quartersOf, activities as quartersOfAll};
 ghost use Rattle.activity.specs.Counts.{Counts};
 ghost use Rattle.activity.specs.Tables.{meaning, closedMonth, activitiesAnswer};
 ghost use Rattle.activity.specs.Units.{quartersIn};
 use super::Closed;
 use super::Table;
-use crate::determinant::Group;
-use crate::fault::Fault;
+use records::Group;
+use records::Fault;
 use crate::units::Quarters;
 
 fn is_under(parties: &[usize], party: usize, k: usize) -> bool
     ensures { λ r. ⌜ r ≡ isUnder (now (parties .entry)) party k ⌝ }
 {
     k < parties.len() && parties[k] == party
+}
+
+// The group of a number from 1 to 9.
+fn group_numbered(number: u8) -> Group
+    requires { ⌜ 1 ≤ number ⌝ ∗ ⌜ number ≤ 9 ⌝ }
+    ensures { λ r. ⌜ r ≡ groupNumbered number ⌝ }
+{
+    match number {
+        1 => Group::Generation,
+        2 => Group::Load,
+        3 => Group::Sales,
+        4 => Group::Purchases,
+        5 => Group::DayAheadSales,
+        6 => Group::DayAheadPurchases,
+        7 => Group::RealTimeObligations,
+        8 => Group::CongestionRights,
+        9 => Group::CongestionRightPurchases,
+        _ => unreachable(),
+    }
 }
 
 impl Table {
@@ -41,7 +61,7 @@ impl Table {
     {
         let mut top = self.group_value(parties, party, Group::Generation);
         for number in 2..=9 {
-            top = top.larger(self.group_value(parties, party, Group::numbered(number)));
+            top = top.larger(self.group_value(parties, party, group_numbered(number)));
         }
         top.count() as u64
     }

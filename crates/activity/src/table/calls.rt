@@ -8,11 +8,11 @@ ghost use Rattle.activity.specs.Tables.{meaning, cleared, carries, collectingM
 use super::Closed;
 use super::Collecting;
 use super::Table;
-use crate::fault::Fault;
+use records::Fault;
 use crate::position::Position;
 use crate::row::Row;
-use crate::ruling::Ruling;
-use crate::ruling::ruled;
+use records::Ruling;
+use records::ruled;
 
 impl Table {
     // A new table carries no month.

@@ -8,7 +8,7 @@ ghost use Rattle.activity.specs.Units.{kWh, kWQuarterHours, quartersIn, sumAns
 use super::KilowattHours;
 use super::KilowattQuarterHours;
 use super::Quarters;
-use crate::fault::Fault;
+use records::Fault;
 use foundation::MOST_SUM;
 
 // A sum with a quantity more, if that stays within its limit.

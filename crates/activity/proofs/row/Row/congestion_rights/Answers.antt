@@ -1,6 +1,6 @@
 use mathlib.Core.Path.{refl}
-use Rattle.activity.specs.declared.determinant.Determinant.the-variants.{Opt, Daobl, Opts, Obls}
-use Rattle.activity.specs.declared.determinant.Group.the-variants.{CongestionRights}
+use Rattle.records.specs.declared.determinant.Determinant.the-variants.{Opt, Daobl, Opts, Obls}
+use Rattle.records.specs.declared.determinant.Group.the-variants.{CongestionRights}
 use Rattle.activity.specs.Rows.{sumsOf}
 use Rattle.activity.proofs.Values.{quadruple, apart, rights}
 use Rattle.activity.proofs.row.Row.congestion_rights.Needs as need

@@ -2,7 +2,7 @@ use mathlib.Core.Path.{_≡_, refl, ap, _∙_}
 use Prim.Native.Nat.{_≤_}
 use lib.IntN.{pos, negℤ}
 use Rattle.std.specs.Numbers.{maxZ}
-use Rattle.activity.specs.Determinants.{facts, plain, clipped, reversed}
+use Rattle.records.specs.Determinants.{facts, plain, clipped, reversed}
 use Rattle.activity.specs.Rows.{keptIn}
 use Rattle.activity.proofs.Values.{interval-plain, rest-plain, energy-counts, interval-counts, clipped-natural, nonNeg-le}
 use Rattle.activity.proofs.row.Row.counted.Needs as need

@@ -1,6 +1,6 @@
 use mathlib.Core.Path.{refl}
-use Rattle.activity.specs.declared.determinant.Determinant.the-variants.{Rtmg, Rtdcimp, Rtamlexsecm, Mebl, Rtqqes, Rtqqep, Daes, Daep, Rtobl, Rtobllo, Optp, Oblp}
-use Rattle.activity.specs.declared.determinant.Group.the-variants.{Generation, Load, Sales, Purchases, DayAheadSales, DayAheadPurchases, RealTimeObligations, CongestionRightPurchases}
+use Rattle.records.specs.declared.determinant.Determinant.the-variants.{Rtmg, Rtdcimp, Rtamlexsecm, Mebl, Rtqqes, Rtqqep, Daes, Daep, Rtobl, Rtobllo, Optp, Oblp}
+use Rattle.records.specs.declared.determinant.Group.the-variants.{Generation, Load, Sales, Purchases, DayAheadSales, DayAheadPurchases, RealTimeObligations, CongestionRightPurchases}
 use Rattle.activity.specs.Rows.{sumsOf}
 use Rattle.activity.proofs.Values.{single, pair, apart, generation, load, sales, purchases, day-ahead-sales, day-ahead-purchases, obligations, right-purchases}
 use Rattle.activity.proofs.row.Row.value.Needs as need

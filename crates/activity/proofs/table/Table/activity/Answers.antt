@@ -10,9 +10,9 @@ use mir.Val.{SFits}
 use Rattle.std.specs.Iters.{counting, folded}
 use Rattle.std.specs.Numbers.{maxZ}
 use Rattle.std.proofs.shelf.Signed.{toZ-ofZ}
-use Rattle.activity.specs.declared.determinant.Group.the-variants.{Generation, Load}
-use Rattle.activity.specs.Activity.{groupValue, groupValues, largest, activity}
-use Rattle.activity.specs.Determinants.{groupNumbered, groupNumber}
+use Rattle.records.specs.declared.determinant.Group.the-variants.{Generation, Load}
+use Rattle.activity.specs.Activity.{groupNumbered, groupValue, groupValues, largest, activity}
+use Rattle.records.specs.Determinants.{groupNumber}
 use Rattle.activity.specs.Tables.{meaning}
 use Rattle.activity.proofs.Activities.{top-more, top-natural, pos-abs}
 use Rattle.activity.proofs.table.Table.activity.Needs as need
@@ -27,7 +27,7 @@ pub loop-number-again : need.loop-number-again
 loop-number-again c =
     let v : ℕ → ℤ = λ n. groupValue (meaning (c .args .self .now) .rows) (c .args .parties .now) (c .args .party) (groupNumbered n) in
     let low : 2 ≤ c .loop-number .number = omega arith in
-    let here = c .group-value .ensures .is ∙ ap (groupValue (meaning (c .args .self .now) .rows) (c .args .parties .now) (c .args .party)) (c .numbered .ensures) in
+    let here = c .group-value .ensures .is ∙ ap (groupValue (meaning (c .args .self .now) .rows) (c .args .parties .now) (c .args .party)) (c .group-numbered .ensures) in
     ( top-more v (c .loop-number .number) _ _ _ low (c .loop-number .inv .0) here (c .larger-top .ensures)
     , top-natural _ _ _ (c .larger-top .ensures) (c .loop-number .inv .1) )
 

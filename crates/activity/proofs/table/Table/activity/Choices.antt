@@ -5,8 +5,7 @@ use lib.IntN.{ℤ, pos}
 use lib.Signed.{_≤ℤ_}
 use Rattle.std.specs.Iters.{counting, folded}
 use Rattle.std.specs.Numbers.{maxZ}
-use Rattle.activity.specs.Activity.{groupValue}
-use Rattle.activity.specs.Determinants.{groupNumbered}
+use Rattle.activity.specs.Activity.{groupNumbered, groupValue}
 use Rattle.activity.specs.Tables.{meaning}
 use Rattle.activity.proofs.table.Table.activity.Given as given
 

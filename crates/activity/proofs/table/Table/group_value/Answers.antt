@@ -5,7 +5,7 @@ use native.Mathlib.Omega.{arith}
 use lib.IntN.{ℤ}
 use lib.ListN.{length}
 use Rattle.std.proofs.shelf.Lists.{length-map}
-use Rattle.activity.specs.declared.determinant.Group.the-variants.{Load}
+use Rattle.records.specs.declared.determinant.Group.the-variants.{Load}
 use Rattle.activity.specs.declared.units.Quarters.{Quarters}
 use Rattle.activity.specs.Activity.{groupValue, totalTo, share, rowValue}
 use Rattle.activity.specs.Rows.{sumsOf}

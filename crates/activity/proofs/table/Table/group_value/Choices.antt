@@ -1,5 +1,5 @@
 use mathlib.Core.Path.{_≡_}
-use Rattle.activity.specs.declared.determinant.Group.the-variants.{Load}
+use Rattle.records.specs.declared.determinant.Group.the-variants.{Load}
 use Rattle.activity.specs.Tables.{meaning}
 use Rattle.activity.proofs.Activities.{SoFar}
 use Rattle.activity.proofs.table.Table.group_value.Given as given

@@ -11,10 +11,10 @@ use Rattle.std.specs.declared.result.Result.the-variants.{Ok}
 use Rattle.std.proofs.shelf.Lists.{map-set}
 use Rattle.std.proofs.shelf.Results.{err-from-errBy}
 use Rattle.std.proofs.shelf.Signed.{toZ-ofZ}
-use Rattle.activity.specs.declared.ruling.Ruling.the-variants.{Counted}
+use Rattle.records.specs.declared.ruling.Ruling.the-variants.{Counted}
 use Rattle.activity.specs.Positions.{indexOf}
 use Rattle.activity.specs.Rows.{sumsOf}
-use Rattle.activity.specs.Ruled.{ruled}
+use Rattle.records.specs.Ruled.{ruled}
 use Rattle.activity.specs.Sums.{Sums, added, addAnswer}
 use Rattle.activity.specs.Tables.{meaning}
 use Rattle.activity.proofs.Posts.{row-read, refused-post, taken-post, counted-table}

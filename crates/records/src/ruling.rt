@@ -1,7 +1,7 @@
 // Which records are refused for their determinant, mark or sign, and which are counted.
 ghost use mathlib.Core.Path.{_≡_};
 ghost use Rattle.std.specs.Vec.{made};
-ghost use Rattle.activity.specs.Ruled.{ruled as answer, SignOk};
+ghost use Rattle.records.specs.Ruled.{ruled as answer, SignOk};
 use crate::determinant::Determinant;
 use crate::fault::Fault;
 use crate::determinant::DeterminantDebug;

@@ -8,13 +8,13 @@ use lib.IntN.{ℤ}
 use lib.Signed.{nonNeg}
 use Rattle.std.specs.declared.result.Result.{Result}
 use Rattle.foundation.specs.Questions.{Question, asks, verdict}
-use Rattle.activity.specs.declared.fault.Fault.{Fault}
-use Rattle.activity.specs.declared.fault.Fault.the-variants as fault
-use Rattle.activity.specs.declared.ruling.Mark.{Mark}
-use Rattle.activity.specs.declared.ruling.Mark.the-variants.{RmrResource, RucInterval}
-use Rattle.activity.specs.declared.ruling.Ruling.{Ruling}
-use Rattle.activity.specs.declared.ruling.Ruling.the-variants.{Counted, Excluded}
-use Rattle.activity.specs.Determinants.{numbered, facts}
+use Rattle.records.specs.declared.fault.Fault.{Fault}
+use Rattle.records.specs.declared.fault.Fault.the-variants as fault
+use Rattle.records.specs.declared.ruling.Mark.{Mark}
+use Rattle.records.specs.declared.ruling.Mark.the-variants.{RmrResource, RucInterval}
+use Rattle.records.specs.declared.ruling.Ruling.{Ruling}
+use Rattle.records.specs.declared.ruling.Ruling.the-variants.{Counted, Excluded}
+use Rattle.records.specs.Determinants.{numbered, facts}
 
 -- marks 1 and 2 stand only with determinant 1
 abbrev pub markAllowed : ℕ → ℕ → Bool

@@ -1,7 +1,7 @@
 // The sixteen determinants, each with its number, unit and group.
 ghost use mathlib.Core.Path.{_≡_};
 ghost use Prim.Native.Nat.{_≤_};
-ghost use Rattle.activity.specs.Determinants.{facts, numbered, groupNumber, groupNumbered};
+ghost use Rattle.records.specs.Determinants.{facts, numbered, groupNumber};
 
 // By the market's own codes for what is settled.
 #[derive(Clone, Copy, PartialEq, Eq, Debug)]
@@ -101,24 +101,6 @@ impl Determinant {
 }
 
 impl Group {
-    pub(crate) fn numbered(number: u8) -> Group
-        requires { ⌜ 1 ≤ number ⌝ ∗ ⌜ number ≤ 9 ⌝ }
-        ensures { λ r. ⌜ r ≡ groupNumbered number ⌝ }
-    {
-        match number {
-            1 => Group::Generation,
-            2 => Group::Load,
-            3 => Group::Sales,
-            4 => Group::Purchases,
-            5 => Group::DayAheadSales,
-            6 => Group::DayAheadPurchases,
-            7 => Group::RealTimeObligations,
-            8 => Group::CongestionRights,
-            9 => Group::CongestionRightPurchases,
-            _ => unreachable(),
-        }
-    }
-
     pub fn number(self) -> u8
         ensures { λ r. ⌜ r ≡ groupNumber self ⌝ }
     {

@@ -4,12 +4,12 @@ use Prim.Native.Nat.{ℕ, _-_}
 use lib.IntN.{ℤ, pos, negℤ, _*ℤ_}
 use lib.ListN.{getD}
 use Rattle.std.specs.Numbers.{maxZ}
-use Rattle.activity.specs.declared.determinant.Determinant.{Determinant}
-use Rattle.activity.specs.declared.determinant.Determinant.the-variants.{Rtmg, Rtdcimp, Rtamlexsecm, Mebl, Rtqqes, Rtqqep, Daes, Daep, Rtobl, Rtobllo, Opt, Daobl, Opts, Obls, Optp, Oblp}
-use Rattle.activity.specs.declared.determinant.Unit as unit
-use Rattle.activity.specs.declared.determinant.Unit.the-variants.{MegawattHour, MegawattOverHour, MegawattOverQuarterHour}
-use Rattle.activity.specs.declared.determinant.Group.{Group}
-use Rattle.activity.specs.declared.determinant.Group.the-variants.{Generation, Load, Sales, Purchases, DayAheadSales, DayAheadPurchases, RealTimeObligations, CongestionRights, CongestionRightPurchases}
+use Rattle.records.specs.declared.determinant.Determinant.{Determinant}
+use Rattle.records.specs.declared.determinant.Determinant.the-variants.{Rtmg, Rtdcimp, Rtamlexsecm, Mebl, Rtqqes, Rtqqep, Daes, Daep, Rtobl, Rtobllo, Opt, Daobl, Opts, Obls, Optp, Oblp}
+use Rattle.records.specs.declared.determinant.Unit as unit
+use Rattle.records.specs.declared.determinant.Unit.the-variants.{MegawattHour, MegawattOverHour, MegawattOverQuarterHour}
+use Rattle.records.specs.declared.determinant.Group.{Group}
+use Rattle.records.specs.declared.determinant.Group.the-variants.{Generation, Load, Sales, Purchases, DayAheadSales, DayAheadPurchases, RealTimeObligations, CongestionRights, CongestionRightPurchases}
 
 -- a sum enters as it is, as the larger of 0 and itself, or with its sign reversed
 pub data Entry : Type 0 where
@@ -65,10 +65,6 @@ groupNumber DayAheadPurchases = 6
 groupNumber RealTimeObligations = 7
 groupNumber CongestionRights = 8
 groupNumber CongestionRightPurchases = 9
-
--- the group of a number from 1 to 9
-abbrev pub groupNumbered : ℕ → Group
-groupNumbered n = getD groups (n - 1) Generation
 
 abbrev pub entered : Entry → ℤ → ℤ
 entered plain z = z

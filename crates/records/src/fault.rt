@@ -1,6 +1,6 @@
 // Why a record is not posted, or a month's activity not given.
 ghost use mathlib.Core.Path.{_≡_};
-ghost use Rattle.activity.specs.Faults.{number as numberOf};
+ghost use Rattle.records.specs.Faults.{number as numberOf};
 
 #[derive(Clone, Copy, PartialEq, Eq, Debug)]
 pub enum Fault {
