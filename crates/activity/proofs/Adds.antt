@@ -91,7 +91,7 @@ sign-kept p d z q y here allowed h was off =
 
 -- what holds of the number at each place holds after a write
 pub set-each : {X : Type 0} (f : X → ℤ) (P : ℕ → ℤ → Type 0) (xs : List X) (j : ℕ) (y : X)
-  → ((k : ℕ) → P k (getD (map f xs) k (pos 0))) → P j (f y) → (k : ℕ) → P k (getD (map f (set xs j y)) k (pos 0))
+    → ((k : ℕ) → P k (getD (map f xs) k (pos 0))) → P j (f y) → (k : ℕ) → P k (getD (map f (set xs j y)) k (pos 0))
 set-each f P [] j y all here k = all k
 set-each f P (x ∷ xs) zero y all here zero = here
 set-each f P (x ∷ xs) zero y all here (suc k) = all (suc k)

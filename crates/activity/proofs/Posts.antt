@@ -44,7 +44,7 @@ split false b s z d e m h = (cc, cc, cc, cc, cc)
 
 -- where the earlier questions of a post hold, the sum decides
 core : (c a b s z w : Bool) (r : Ruling) → c ≡ true → a ≡ true → b ≡ true → s ≡ true → z ≡ true
-  → cond c (cond a (cond b (cond s (cond (cond z w true) (Ok r) (Err fault.Sum)) (Err fault.Sign)) (Err fault.Mark)) (Err fault.Determinant)) (Err fault.Month) ≡ cond w (Ok r) (Err fault.Sum)
+    → cond c (cond a (cond b (cond s (cond (cond z w true) (Ok r) (Err fault.Sum)) (Err fault.Sign)) (Err fault.Mark)) (Err fault.Determinant)) (Err fault.Month) ≡ cond w (Ok r) (Err fault.Sum)
 core c a b s z w r p₀ p₁ p₂ p₃ p₄ =
     cond-true _ _ _ p₀ ∙ cond-true _ _ _ p₁ ∙ cond-true _ _ _ p₂ ∙ cond-true _ _ _ p₃ ∙ ap (λ x. cond x (Ok r) (Err fault.Sum)) (cond-true _ _ _ p₄)
 

@@ -156,7 +156,7 @@ module _ (group g : Group) (s : Sums) (here : group ≡ g) where
   pair d e a b r is f h told p = named 16000000000 (omega arith) is p (both 8000000000 f h told)
 
   pub quadruple : (d₁ d₂ d₃ d₄ : Determinant) (a₁ a₂ a₃ a₄ x y r : ℤ) → rowValue g s ≡ (counted s d₁ +ℤ counted s d₂) +ℤ (counted s d₃ +ℤ counted s d₄) → Counted d₁ a₁ → Counted d₂ a₂ → Counted d₃ a₃ → Counted d₄ a₄
-    → x ≡ a₁ +ℤ a₂ → y ≡ a₃ +ℤ a₄ → r ≡ x +ℤ y → ((group ≡ Load → ⊥) → ((d₁ ≡ Mebl → ⊥) × (d₂ ≡ Mebl → ⊥)) × ((d₃ ≡ Mebl → ⊥) × (d₄ ≡ Mebl → ⊥))) → Value r
+      → x ≡ a₁ +ℤ a₂ → y ≡ a₃ +ℤ a₄ → r ≡ x +ℤ y → ((group ≡ Load → ⊥) → ((d₁ ≡ Mebl → ⊥) × (d₂ ≡ Mebl → ⊥)) × ((d₃ ≡ Mebl → ⊥) × (d₄ ≡ Mebl → ⊥))) → Value r
   quadruple d₁ d₂ d₃ d₄ a₁ a₂ a₃ a₄ x y r is f₁ f₂ f₃ f₄ e₁ e₂ told p = named 32000000000 (omega arith) is p (both 16000000000 (both 8000000000 f₁ f₂ e₁) (both 8000000000 f₃ f₄ e₂) told)
 
 pub generation : (s : Sums) → rowValue Generation s ≡ counted s Rtmg +ℤ counted s Rtdcimp

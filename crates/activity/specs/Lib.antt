@@ -3,6 +3,7 @@ pub mod Signs
 pub mod Sums
 pub mod Rows
 pub mod Positions
+pub mod Months
 pub mod Tables
 pub mod Activity
 pub mod Counts

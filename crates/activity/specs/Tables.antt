@@ -15,8 +15,6 @@ use Rattle.records.specs.declared.fault.Fault.{Fault}
 use Rattle.records.specs.declared.fault.Fault.the-variants as fault
 use Rattle.records.specs.declared.ruling.Ruling.{Ruling}
 use Rattle.activity.specs.declared.table.Table.{Table}
-use Rattle.activity.specs.declared.table.Collecting.{Collecting}
-use Rattle.activity.specs.declared.table.Closed.{Closed}
 use Rattle.records.specs.Determinants.{numbered}
 use Rattle.activity.specs.Rows.{sumsOf}
 use Rattle.records.specs.Ruled.{recordAsks, ruling}
@@ -30,12 +28,6 @@ pub record TableMeaning : Type 0 where
 
 abbrev pub meaning : Table → TableMeaning
 meaning t = record { month = t .month; rows = map sumsOf (t .rows) }
-
-abbrev pub collectingMonth : Collecting → ℕ
-collectingMonth s = s .month
-
-abbrev pub closedMonth : Closed → ℕ
-closedMonth s = s .month
 
 -- a table without records
 abbrev pub cleared : Option ℕ → TableMeaning

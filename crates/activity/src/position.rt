@@ -1,5 +1,6 @@
 // A Market Participant by its place in the order of enrolment.
 ghost use Prim.Native.Nat.{_<_};
+
 mod calls;
 
 #[derive(Clone, Copy)]

@@ -3,6 +3,7 @@ ghost use mathlib.Core.Path.{_≡_};
 ghost use mathlib.Core.List.{map};
 ghost use lib.ListN.{length};
 ghost use Rattle.activity.specs.Signs.{Signs, energySigned, intervalSigned};
+
 mod place;
 mod sums;
 

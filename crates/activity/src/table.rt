@@ -1,4 +1,4 @@
-// The activity table of a month, and the month's two states.
+// The activity table of a month.
 ghost use mathlib.Core.Path.{_≡_};
 ghost use lib.ListN.{length};
 
@@ -13,16 +13,4 @@ pub struct Table {
     month: Option<u16>,
     rows: [Row; 64],
     ghost full: { length rows ≡ 64 },
-}
-
-// A month whose records are still posted.
-#[derive(Drop)]
-pub struct Collecting {
-    month: u16,
-}
-
-// A month that may be billed.
-#[derive(Drop)]
-pub struct Closed {
-    month: u16,
 }

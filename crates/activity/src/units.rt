@@ -1,6 +1,7 @@
 // Sums of kWh, sums of kW over 15 minutes, and the quarters of a kWh that both are turned into.
 ghost use Prim.Native.Nat.{_≤_};
 ghost use lib.IntN.{natAbs};
+
 mod calls;
 
 #[derive(Clone, Copy)]

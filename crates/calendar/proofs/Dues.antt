@@ -57,10 +57,10 @@ module _ (m : CalendarMeaning) (invoice : ℕ) where
         bank = and-left _ _ both;
         business = and-right _ _ both;
         next = λ day lo hi.
-          let more = days-mono (m .bank) invoice (suc (r .0)) (day - invoice) (omega arith) in
-          and-rest (leb 5 (bankDays m invoice day)) (isBoth m day) (le-leb 5 (bankDays m invoice day) (omega (arith, more, r .3))) (h .3 day (omega arith) hi);
+            let more = days-mono (m .bank) invoice (suc (r .0)) (day - invoice) (omega arith) in
+            and-rest (leb 5 (bankDays m invoice day)) (isBoth m day) (le-leb 5 (bankDays m invoice day) (omega (arith, more, r .3))) (h .3 day (omega arith) hi);
         soon = omega (arith, h .1);
-        last = omega (arith, h .0, h .1)
+        last = omega (arith, h .0, h .1);
       }
 
   before-fifth : (fifth : ℕ) → invoice < fifth → m .bank fifth ≡ true → bankDays m invoice fifth ≡ 5 → (day : ℕ) → invoice < day → day < fifth → bankDays m invoice day < 5
@@ -78,15 +78,15 @@ module _ (m : CalendarMeaning) (invoice : ℕ) where
       first-found (mayBeDue m invoice) invoice (span invoice) due (omega (arith, h .later, h .from-fifth)) (omega (arith, h .later, h .from-fifth, h .soon, h .last))
       (and-both _ _ (le-leb 5 (bankDays m invoice due) (omega (arith, more, h .five))) (and-both _ _ (h .bank) (h .business)))
       (λ day lo hi. elim (cases-lt day (h .fifth)) [
-          inl k ↦ and-off _ _ (lt-leb 5 (bankDays m invoice day) (before-fifth (h .fifth) (h .later) (h .fifth-bank) (h .five) day lo k))
+        | inl k ↦ and-off _ _ (lt-leb 5 (bankDays m invoice day) (before-fifth (h .fifth) (h .later) (h .fifth-bank) (h .five) day lo k))
         | inr k ↦ and-no _ _ (h .next day k hi)
-        ])
+      ])
 
   pub due-law : DueAnswer m invoice (dueDay m invoice)
   unfolding dueDay
   due-law = record {
     sound = λ due e. sound due (subst (Firsts (mayBeDue m invoice) invoice (span invoice)) e (first-is (mayBeDue m invoice) invoice (span invoice)));
-    complete = complete
+    complete = complete;
   }
 
 -- one turn of the loop over the days after the invoice day

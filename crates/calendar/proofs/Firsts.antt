@@ -24,8 +24,8 @@ module _ (p : ℕ → Bool) (day : ℕ) where
   days-reach k zero h = absurd (omega arith)
   days-reach k (suc n) h =
       elim (cases-lt k (daysAfter p day n)) [
-        inl lt ↦ (let r = days-reach k n lt in (r .0, omega (arith, r .1), r .2, r .3))
-      | inr ge ↦ (let on = last k n h ge (p (day + suc n)) refl in (n, omega arith, on .0, on .1))
+        | inl lt ↦ (let r = days-reach k n lt in (r .0, omega (arith, r .1), r .2, r .3))
+        | inr ge ↦ (let on = last k n h ge (p (day + suc n)) refl in (n, omega arith, on .0, on .1))
       ]
     where
       last : (k n : ℕ) → k < daysAfter p day (suc n) → daysAfter p day n ≤ k → (b : Bool) → p (day + suc n) ≡ b → (p (day + suc n) ≡ true) × (daysAfter p day (suc n) ≡ suc k)
@@ -51,10 +51,10 @@ module _ (p : ℕ → Bool) (day : ℕ) where
   found n None h d lo hi on before = absurd (true-false (p d) on (h d lo hi))
   found n (Some e) h d lo hi on before =
       elim (cases-lt e d) [
-        inl k ↦ absurd (true-false (p e) (h .2) (before e (h .0) k))
-      | inr k ↦ elim (cases-lt d e) [
-          inl m ↦ absurd (true-false (p d) on (h .3 d lo m))
-        | inr m ↦ (let s : e ≡ d = omega arith in ap Some s)
+        | inl k ↦ absurd (true-false (p e) (h .2) (before e (h .0) k))
+        | inr k ↦ elim (cases-lt d e) [
+          | inl m ↦ absurd (true-false (p d) on (h .3 d lo m))
+          | inr m ↦ (let s : e ≡ d = omega arith in ap Some s)
         ]
       ]
 

@@ -38,6 +38,6 @@ copied-more xs ys i inx iny e = rw add-one (take-suc-set xs i (getD ys i 0) inx 
 pub first-sixteen : (xs : List ℕ) → take (min (length xs) 16) xs ≡ take 16 xs
 first-sixteen xs =
     elim (cases-lt 16 (length xs)) [
-      inl k ↦ (let e : min (length xs) 16 ≡ 16 = omega arith in rw e)
-    | inr k ↦ (let e : min (length xs) 16 ≡ length xs = omega arith in rw e (take-all (length xs) xs (omega arith) ∙ sym (take-all 16 xs k)))
+      | inl k ↦ (let e : min (length xs) 16 ≡ 16 = omega arith in rw e)
+      | inr k ↦ (let e : min (length xs) 16 ≡ length xs = omega arith in rw e (take-all (length xs) xs (omega arith) ∙ sym (take-all 16 xs k)))
     ]

@@ -1,5 +1,6 @@
 // A day and a minute of it.
 ghost use Prim.Native.Nat.{_≤_};
+
 mod calls;
 
 #[derive(Clone, Copy)]

@@ -3,6 +3,7 @@ ghost use mathlib.Core.Path.{_≡_};
 ghost use lib.ListN.{take};
 ghost use Rattle.calendar.specs.Calendars.{weekly, mondayToFriday};
 ghost use Rattle.calendar.specs.Weeklies.{meaningOf};
+
 mod listed;
 
 use crate::meaning::Calendar;
@@ -19,7 +20,10 @@ impl Weekly {
     pub fn new(no_bank_days: &[u16], no_business_days: &[u16]) -> Weekly
         ensures { λ r. ⌜ meaningOf r ≡ weekly (take 16 (now («no_bank_days» .entry))) (take 16 (now («no_business_days» .entry))) ⌝ }
     {
-        Weekly { no_bank_days: Listed::new(no_bank_days), no_business_days: Listed::new(no_business_days) }
+        Weekly {
+            no_bank_days: Listed::new(no_bank_days),
+            no_business_days: Listed::new(no_business_days),
+        }
     }
 }
 

@@ -72,10 +72,10 @@ pub count-lt : (p q : ℕ → Bool) (n j : ℕ) → j < n → p j ≡ false → 
 count-lt p q zero j l off on h = absurd (omega arith)
 count-lt p q (suc n) j l off on h =
     elim (cases-lt j n) [
-      inl k ↦ omega (arith, count-lt p q n j k off on (λ i m. h i (omega arith)), oneIf-le (p n) (q n) (h n (omega arith)))
-    | inr k ↦
-        let e : n ≡ j = omega arith in
-        let none : oneIf (p n) ≡ 0 = rw (e, off) in
-        let one : oneIf (q n) ≡ 1 = rw (e, on) in
-        omega (arith, count-le p q n (λ i m. h i (omega arith)))
+      | inl k ↦ omega (arith, count-lt p q n j k off on (λ i m. h i (omega arith)), oneIf-le (p n) (q n) (h n (omega arith)))
+      | inr k ↦
+          let e : n ≡ j = omega arith in
+          let none : oneIf (p n) ≡ 0 = rw (e, off) in
+          let one : oneIf (q n) ≡ 1 = rw (e, on) in
+          omega (arith, count-le p q n (λ i m. h i (omega arith)))
     ]

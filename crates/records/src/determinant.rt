@@ -33,7 +33,7 @@ pub enum Unit {
 }
 
 // Determinants whose quantities are added.
-#[derive(Clone, Copy, PartialEq, Eq, Debug)]
+#[derive(Clone, Copy)]
 pub enum Group {
     Generation,
     Load,
@@ -78,7 +78,8 @@ impl Determinant {
     {
         match self {
             Determinant::Rtmg | Determinant::Rtamlexsecm | Determinant::Mebl => Unit::MegawattHour,
-            Determinant::Rtdcimp | Determinant::Rtqqes | Determinant::Rtqqep => Unit::MegawattOverQuarterHour,
+            Determinant::Rtdcimp | Determinant::Rtqqes | Determinant::Rtqqep =>
+                Unit::MegawattOverQuarterHour,
             _ => Unit::MegawattOverHour,
         }
     }
@@ -94,7 +95,8 @@ impl Determinant {
             Determinant::Daes => Group::DayAheadSales,
             Determinant::Daep => Group::DayAheadPurchases,
             Determinant::Rtobl | Determinant::Rtobllo => Group::RealTimeObligations,
-            Determinant::Opt | Determinant::Daobl | Determinant::Opts | Determinant::Obls => Group::CongestionRights,
+            Determinant::Opt | Determinant::Daobl | Determinant::Opts | Determinant::Obls =>
+                Group::CongestionRights,
             Determinant::Optp | Determinant::Oblp => Group::CongestionRightPurchases,
         }
     }

@@ -3,9 +3,9 @@ ghost use mathlib.Core.Path.{_≡_};
 ghost use Rattle.std.specs.Vec.{made};
 ghost use Rattle.records.specs.Ruled.{ruled as answer, SignOk};
 use crate::determinant::Determinant;
-use crate::fault::Fault;
 use crate::determinant::DeterminantDebug;
 use crate::determinant::DeterminantPartialEq;
+use crate::fault::Fault;
 
 // Why a record is accepted and not added: mark 1, an RMR Resource, or mark 2, a RUC-Committed Interval.
 #[derive(Clone, Copy, PartialEq, Eq, Debug)]

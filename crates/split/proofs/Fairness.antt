@@ -94,8 +94,8 @@ module _ (amount : ℕ) (xs : List ℕ) (some : 0 < sum xs) where
   ordered : (i j : ℕ) → j < length xs → extra amount xs i ≡ true → extra amount xs j ≡ false → remainder amount xs j ≤ remainder amount xs i
   ordered i j l on off =
       elim (cases-lt (remainder amount xs i) (remainder amount xs j)) [
-        inl k ↦ absurd (omega (arith, ahead-lt amount xs j i l (grind (arith, tells)), ltb-true _ _ on, ltb-false _ _ off))
-      | inr k ↦ k
+        | inl k ↦ absurd (omega (arith, ahead-lt amount xs j i l (grind (arith, tells)), ltb-true _ _ on, ltb-false _ _ off))
+        | inr k ↦ k
       ]
 
   over : (i : ℕ) → extra amount xs i ≡ true → bound ≤ remainder amount xs i

@@ -30,28 +30,28 @@ module _ (m t w r : ℕ) (h : r < m) (k : t ≤ m) where
   more l (negsuc n) = omega (arith, far m n (m * w + r), gap (m * (w + 1)) (m * w + r), mul-le-mul-right w k, mul-le-mul-right n k)
   more l (pos n) =
       elim (cases-lt n (w + 1)) [
-        inl low ↦
-          let e = w - n in
-          let is : w ≡ n + e = omega arith in
-          omega (arith, gap (m * n) (m * w + r), gap (m * (w + 1)) (m * w + r), mul-le-mul-right e k, ap (λ z. m * z) is, ap (λ z. t * z) is)
-      | inr high ↦
-          let e = n - (w + 1) in
-          let is : n ≡ w + 1 + e = omega arith in
-          omega (arith, gap (m * n) (m * w + r), gap (m * (w + 1)) (m * w + r), ap (λ z. m * z) is, ap (λ z. t * z) is)
+        | inl low ↦
+            let e = w - n in
+            let is : w ≡ n + e = omega arith in
+            omega (arith, gap (m * n) (m * w + r), gap (m * (w + 1)) (m * w + r), mul-le-mul-right e k, ap (λ z. m * z) is, ap (λ z. t * z) is)
+        | inr high ↦
+            let e = n - (w + 1) in
+            let is : n ≡ w + 1 + e = omega arith in
+            omega (arith, gap (m * n) (m * w + r), gap (m * (w + 1)) (m * w + r), ap (λ z. m * z) is, ap (λ z. t * z) is)
       ]
 
   less : r ≤ t → (d : ℤ) → Near w d
   less l (negsuc n) = omega (arith, far m n (m * w + r), gap (m * w) (m * w + r), mul-le-mul-right w k, mul-le-mul-right n k)
   less l (pos n) =
       elim (cases-lt w n) [
-        inl high ↦
-          let e = n - suc w in
-          let is : n ≡ suc w + e = omega arith in
-          omega (arith, gap (m * n) (m * w + r), gap (m * w) (m * w + r), ap (λ z. m * z) is, ap (λ z. t * z) is)
-      | inr low ↦
-          let e = w - n in
-          let is : w ≡ n + e = omega arith in
-          omega (arith, gap (m * n) (m * w + r), gap (m * w) (m * w + r), mul-le-mul-right e k, ap (λ z. m * z) is, ap (λ z. t * z) is)
+        | inl high ↦
+            let e = n - suc w in
+            let is : n ≡ suc w + e = omega arith in
+            omega (arith, gap (m * n) (m * w + r), gap (m * w) (m * w + r), ap (λ z. m * z) is, ap (λ z. t * z) is)
+        | inr low ↦
+            let e = w - n in
+            let is : w ≡ n + e = omega arith in
+            omega (arith, gap (m * n) (m * w + r), gap (m * w) (m * w + r), mul-le-mul-right e k, ap (λ z. m * z) is, ap (λ z. t * z) is)
       ]
 
   pub near : (b : Bool) (c x : ℕ) → c ≡ w + oneIf b → m * w + r ≡ x → (b ≡ true → t ≤ r) → (b ≡ false → r ≤ t) → (d : ℤ) → natAbs (pos m *ℤ pos c -ℤ pos x) + m * up d + (2 * t) * c + (2 * t) * down d ≤ natAbs (pos m *ℤ d -ℤ pos x) + m * c + (2 * t) * up d + m * down d

@@ -49,8 +49,8 @@ module _ (b : ℕ → ℕ → Bool) (q : Queue b) where
   firsts (suc n) zero h = last-out n zero (omega arith) (firsts n zero (omega arith))
   firsts (suc n) (suc m) h =
       elim (cases-lt (rank n n) (suc m)) [
-        inl k ↦ last-in n m (omega arith) (firsts n m (omega arith))
-      | inr k ↦ last-out n (suc m) k (firsts n (suc m) (omega (arith, count-few (λ j. b j n) n)))
+        | inl k ↦ last-in n m (omega arith) (firsts n m (omega arith))
+        | inr k ↦ last-out n (suc m) k (firsts n (suc m) (omega (arith, count-few (λ j. b j n) n)))
       ]
 
 -- larger values first, and of equal ones the earlier place

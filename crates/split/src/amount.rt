@@ -1,5 +1,6 @@
 // A month's amount in cents: 1 to 1,000,000,000.
 ghost use Prim.Native.Nat.{_≤_};
+
 mod calls;
 
 #[derive(Clone, Copy)]

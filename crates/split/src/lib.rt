@@ -5,4 +5,6 @@ mod share;
 
 pub use amount::Amount;
 pub use fault::Fault;
+pub use fault::FaultDebug;
+pub use fault::FaultPartialEq;
 pub use share::split;

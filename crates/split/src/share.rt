@@ -84,7 +84,11 @@ fn charge_at(amount: u64, activities: &[u64], all: u64, left: u64, i: usize) -> 
         return 0;
     }
     let (whole, _) = exact_share(amount, activities[i], all);
-    if ahead_of(amount, activities, all, i) < left { whole + 1 } else { whole }
+    if ahead_of(amount, activities, all, i) < left {
+        whole + 1
+    } else {
+        whole
+    }
 }
 
 // Writes the charge of each place, 0 past the last, and answers the sum of the activities.

@@ -14,7 +14,11 @@ impl Position {
     pub fn new(index: usize) -> Option<Position>
         ensures { λ r. ⌜ mapped indexOf r ≡ cond (ltb index mostParticipants) (Some index) None ⌝ }
     {
-        if index < MOST_PARTICIPANTS { Some(Position { index }) } else { None }
+        if index < MOST_PARTICIPANTS {
+            Some(Position { index })
+        } else {
+            None
+        }
     }
 
     pub fn index(self) -> usize

@@ -18,18 +18,21 @@ ghost use Rattle.activity.specs.Units.{kWh, kWQuarterHours, quartersIn};
 use super::Row;
 use super::place::Place;
 use super::place::place_of;
-use records::Determinant;
-use records::Group;
-use records::Fault;
 use crate::units::KilowattHours;
 use crate::units::KilowattQuarterHours;
 use crate::units::Quarters;
+use records::Determinant;
+use records::Fault;
+use records::Group;
 
 impl Row {
     pub(crate) fn empty() -> Row
         ensures { λ r. ⌜ sumsOf r ≡ noSums ⌝ }
     {
-        Row { energy: [KilowattHours::zero(); 13], intervals: [KilowattQuarterHours::zero(); 3] }
+        Row {
+            energy: [KilowattHours::zero(); 13],
+            intervals: [KilowattQuarterHours::zero(); 3],
+        }
     }
 
     // Adds the quantity to the determinant's sum.
@@ -80,23 +83,29 @@ impl Row {
         ensures { λ r. ⌜ Counts (rowValue group (sumsOf (now (self .entry)))) 32000000000 (group ≡ Load → ⊥) (quartersIn r) ⌝ }
     {
         match group {
-            Group::Generation => self.counted(Determinant::Rtmg).plus(self.counted(Determinant::Rtdcimp)),
-            Group::Load => self.counted(Determinant::Rtamlexsecm).plus(self.counted(Determinant::Mebl)),
+            Group::Generation => self.counted(Determinant::Rtmg)
+                .plus(self.counted(Determinant::Rtdcimp)),
+            Group::Load => self.counted(Determinant::Rtamlexsecm)
+                .plus(self.counted(Determinant::Mebl)),
             Group::Sales => self.counted(Determinant::Rtqqes),
             Group::Purchases => self.counted(Determinant::Rtqqep),
             Group::DayAheadSales => self.counted(Determinant::Daes),
             Group::DayAheadPurchases => self.counted(Determinant::Daep),
-            Group::RealTimeObligations => self.counted(Determinant::Rtobl).plus(self.counted(Determinant::Rtobllo)),
+            Group::RealTimeObligations => self.counted(Determinant::Rtobl)
+                .plus(self.counted(Determinant::Rtobllo)),
             Group::CongestionRights => self.congestion_rights(),
-            Group::CongestionRightPurchases => self.counted(Determinant::Optp).plus(self.counted(Determinant::Oblp)),
+            Group::CongestionRightPurchases => self.counted(Determinant::Optp)
+                .plus(self.counted(Determinant::Oblp)),
         }
     }
 
     fn congestion_rights(&self) -> Quarters
         ensures { λ r. ⌜ Counts (rowValue CongestionRights (sumsOf (now (self .entry)))) 32000000000 (CongestionRights ≡ Load → ⊥) (quartersIn r) ⌝ }
     {
-        let owned = self.counted(Determinant::Opt).plus(self.counted(Determinant::Daobl));
-        let sold = self.counted(Determinant::Opts).plus(self.counted(Determinant::Obls));
+        let owned = self.counted(Determinant::Opt)
+            .plus(self.counted(Determinant::Daobl));
+        let sold = self.counted(Determinant::Opts)
+            .plus(self.counted(Determinant::Obls));
         owned.plus(sold)
     }
 }

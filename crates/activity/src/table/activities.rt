@@ -7,13 +7,14 @@ ghost use Rattle.foundation.specs.Questions.{after};
 ghost use Rattle.records.specs.declared.determinant.Group.the-variants.{Load};
 ghost use Rattle.activity.specs.Activity.{groupNumbered, isUnder, groupValue, groupValues, largest, activity as quartersOf, activities as quartersOfAll};
 ghost use Rattle.activity.specs.Counts.{Counts};
-ghost use Rattle.activity.specs.Tables.{meaning, closedMonth, activitiesAnswer};
+ghost use Rattle.activity.specs.Months.{closedMonth};
+ghost use Rattle.activity.specs.Tables.{meaning, activitiesAnswer};
 ghost use Rattle.activity.specs.Units.{quartersIn};
-use super::Closed;
 use super::Table;
-use records::Group;
-use records::Fault;
+use crate::month::Closed;
 use crate::units::Quarters;
+use records::Fault;
+use records::Group;
 
 fn is_under(parties: &[usize], party: usize, k: usize) -> bool
     ensures { λ r. ⌜ r ≡ isUnder (now (parties .entry)) party k ⌝ }
@@ -67,7 +68,12 @@ impl Table {
     }
 
     // Writes the activity of the Counter-Party at each place, if the table carries the month.
-    pub fn activities(&self, month: &Closed, parties: &[usize], out: &mut [u64]) -> Result<(), Fault>
+    pub fn activities(
+        &self,
+        month: &Closed,
+        parties: &[usize],
+        out: &mut [u64],
+    ) -> Result<(), Fault>
         ensures answer { λ r. ⌜ r ≡ activitiesAnswer (meaning (now (self .entry))) (closedMonth (now (month .entry))) ⌝ }
         ensures activities { λ r. ⌜ now (out .exit) ≡ after r (quartersOfAll (meaning (now (self .entry)) .rows) (now (parties .entry)) (length (now (out .entry)))) (now (out .entry)) ⌝ }
     {

@@ -1,16 +1,16 @@
-// Opening a month, posting records to it and closing it.
+// Opening a month and posting records to it.
 ghost use mathlib.Core.Path.{_≡_};
 ghost use Rattle.std.specs.Options.{mapped};
 ghost use Rattle.std.specs.declared.option.Option.the-variants.{Some, None};
 ghost use Rattle.foundation.specs.Questions.{after};
 ghost use Rattle.activity.specs.Positions.{indexOf};
-ghost use Rattle.activity.specs.Tables.{meaning, cleared, carries, collectingMonth, closedMonth, postAnswer, posted};
-use super::Closed;
-use super::Collecting;
+ghost use Rattle.activity.specs.Months.{collectingMonth};
+ghost use Rattle.activity.specs.Tables.{meaning, cleared, carries, postAnswer, posted};
 use super::Table;
-use records::Fault;
+use crate::month::Collecting;
 use crate::position::Position;
 use crate::row::Row;
+use records::Fault;
 use records::Ruling;
 use records::ruled;
 
@@ -19,7 +19,10 @@ impl Table {
     pub fn new() -> Table
         ensures { λ r. ⌜ meaning r ≡ cleared None ⌝ }
     {
-        Table { month: None, rows: [Row::empty(); 64] }
+        Table {
+            month: None,
+            rows: [Row::empty(); 64],
+        }
     }
 
     // Clears the table for a month, and gives the month in its collecting state.
@@ -42,7 +45,14 @@ impl Table {
     }
 
     // Adds a record of the participant at a position, if there is one; a record with mark 1 or 2 is accepted and not added.
-    pub fn post(&mut self, state: &Collecting, participant: Option<Position>, determinant: u8, mark: u8, quantity: i32) -> Result<Ruling, Fault>
+    pub fn post(
+        &mut self,
+        state: &Collecting,
+        participant: Option<Position>,
+        determinant: u8,
+        mark: u8,
+        quantity: i32,
+    ) -> Result<Ruling, Fault>
         ensures answer { λ r. ⌜ r ≡ postAnswer (meaning (now (self .entry))) (collectingMonth (now (state .entry))) (mapped indexOf participant) determinant mark quantity ⌝ }
         ensures table { λ r. ⌜ meaning (now (self .exit)) ≡ after r (posted (meaning (now (self .entry))) (mapped indexOf participant) determinant mark quantity) (meaning (now (self .entry))) ⌝ }
     {
@@ -60,28 +70,5 @@ impl Table {
             self.rows[k] = row;
         }
         Ok(ruling)
-    }
-}
-
-impl Collecting {
-    pub fn month(&self) -> u16
-        ensures { λ r. ⌜ r ≡ collectingMonth (now (self .entry)) ⌝ }
-    {
-        self.month
-    }
-
-    // The month may be billed from now on, and no record is posted to it any more.
-    pub fn close(self) -> Closed
-        ensures { λ r. ⌜ closedMonth r ≡ collectingMonth self ⌝ }
-    {
-        Closed { month: self.month }
-    }
-}
-
-impl Closed {
-    pub fn month(&self) -> u16
-        ensures { λ r. ⌜ r ≡ closedMonth (now (self .entry)) ⌝ }
-    {
-        self.month
     }
 }

@@ -8,8 +8,8 @@ ghost use Rattle.activity.specs.Units.{kWh, kWQuarterHours, quartersIn, sumAns
 use super::KilowattHours;
 use super::KilowattQuarterHours;
 use super::Quarters;
-use records::Fault;
 use foundation::MOST_SUM;
+use records::Fault;
 
 // A sum with a quantity more, if that stays within its limit.
 fn raised(sum: i64, quantity: i32) -> Result<i64, Fault>
@@ -24,13 +24,13 @@ fn raised(sum: i64, quantity: i32) -> Result<i64, Fault>
 }
 
 impl KilowattHours {
-    pub fn zero() -> KilowattHours
+    pub(crate) fn zero() -> KilowattHours
         ensures { λ r. ⌜ kWh r ≡ pos 0 ⌝ }
     {
         KilowattHours { sum: 0 }
     }
 
-    pub fn plus(self, quantity: i32) -> Result<KilowattHours, Fault>
+    pub(crate) fn plus(self, quantity: i32) -> Result<KilowattHours, Fault>
         ensures { λ r. ⌜ means kWh r ≡ sumAnswer (kWh self) quantity ⌝ }
     {
         let sum = raised(self.sum, quantity)?;
@@ -38,34 +38,40 @@ impl KilowattHours {
     }
 
     // The larger of 0 and the sum.
-    pub fn clipped(self) -> KilowattHours
+    pub(crate) fn clipped(self) -> KilowattHours
         ensures { λ r. ⌜ kWh r ≡ maxZ (pos 0) (kWh self) ⌝ }
     {
-        if self.sum < 0 { KilowattHours { sum: 0 } } else { self }
+        if self.sum < 0 {
+            KilowattHours { sum: 0 }
+        } else {
+            self
+        }
     }
 
-    pub fn reversed(self) -> KilowattHours
+    pub(crate) fn reversed(self) -> KilowattHours
         ensures { λ r. ⌜ kWh r ≡ negℤ (kWh self) ⌝ }
     {
         KilowattHours { sum: -self.sum }
     }
 
     // A kWh is four quarters.
-    pub fn quarters(self) -> Quarters
+    pub(crate) fn quarters(self) -> Quarters
         ensures { λ r. ⌜ quartersIn r ≡ pos 4 *ℤ kWh self ⌝ }
     {
-        Quarters { count: 4 * self.sum }
+        Quarters {
+            count: 4 * self.sum,
+        }
     }
 }
 
 impl KilowattQuarterHours {
-    pub fn zero() -> KilowattQuarterHours
+    pub(crate) fn zero() -> KilowattQuarterHours
         ensures { λ r. ⌜ kWQuarterHours r ≡ pos 0 ⌝ }
     {
         KilowattQuarterHours { sum: 0 }
     }
 
-    pub fn plus(self, quantity: i32) -> Result<KilowattQuarterHours, Fault>
+    pub(crate) fn plus(self, quantity: i32) -> Result<KilowattQuarterHours, Fault>
         ensures { λ r. ⌜ means kWQuarterHours r ≡ sumAnswer (kWQuarterHours self) quantity ⌝ }
     {
         let sum = raised(self.sum, quantity)?;
@@ -73,7 +79,7 @@ impl KilowattQuarterHours {
     }
 
     // A kW over 15 minutes is one quarter.
-    pub fn quarters(self) -> Quarters
+    pub(crate) fn quarters(self) -> Quarters
         ensures { λ r. ⌜ quartersIn r ≡ kWQuarterHours self ⌝ }
     {
         Quarters { count: self.sum }
@@ -81,7 +87,7 @@ impl KilowattQuarterHours {
 }
 
 impl Quarters {
-    pub fn zero() -> Quarters
+    pub(crate) fn zero() -> Quarters
         ensures { λ r. ⌜ quartersIn r ≡ pos 0 ⌝ }
     {
         Quarters { count: 0 }
@@ -97,12 +103,18 @@ impl Quarters {
         requires { ⌜ natAbs (quartersIn self) ≤ 2000000000000000 ⌝ ∗ ⌜ natAbs (quartersIn more) ≤ 2000000000000000 ⌝ }
         ensures { λ r. ⌜ quartersIn r ≡ quartersIn self +ℤ quartersIn more ⌝ }
     {
-        Quarters { count: self.count + more.count }
+        Quarters {
+            count: self.count + more.count,
+        }
     }
 
-    pub fn larger(self, other: Quarters) -> Quarters
+    pub(crate) fn larger(self, other: Quarters) -> Quarters
         ensures { λ r. ⌜ quartersIn r ≡ maxZ (quartersIn self) (quartersIn other) ⌝ }
     {
-        if other.count < self.count { self } else { other }
+        if other.count < self.count {
+            self
+        } else {
+            other
+        }
     }
 }

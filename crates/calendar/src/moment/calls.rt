@@ -35,6 +35,7 @@ impl Moment {
     pub fn is_before(self, other: Moment) -> bool
         ensures { λ r. ⌜ r ≡ before (when self) (when other) ⌝ }
     {
-        self.day < other.day || self.day == other.day && self.minute < other.minute
+        let same_day = self.day == other.day;
+        same_day && self.minute < other.minute || self.day < other.day
     }
 }

@@ -21,16 +21,16 @@ loop-after-again g c =
     let m = g .C·Calendar .meaning (c .args .calendar .now) in
     let P : ℕ → Type 0 = λ n. SoFar m (c .args .invoice-day) (c .loop-after .after + 1) n in
     elim (c .if-is-bank-business-day .came) [
-      then-is-bank-business-day·else-bank-days-ge-FIFTH w ↦
-        (let bank : m .bank (c .args .invoice-day + c .loop-after .after + 1) ≡ true = sym (c .is-bank-business-day .ensures) ∙ w .if-is-bank-business-day .taken in
-        subst P (sym (w .bank-days-is)) (elim (w .else-bank-days-ge-FIFTH .came) [
-          else-bank-days-ge-FIFTH·by·then-bank-days-ge-FIFTH·else-is-business-day w′ ↦
-            no-business m (c .args .invoice-day) (c .loop-after .after) (c .loop-after .bank-days) (c .loop-after .inv) bank (sym (w′ .is-business-day .ensures) ∙ w′ .if-is-business-day .left)
-        | else-bank-days-ge-FIFTH·by·else-bank-days-ge-FIFTH w′ ↦
-            early m (c .args .invoice-day) (c .loop-after .after) (c .loop-after .bank-days) (c .loop-after .inv) bank (omega (arith, w′ .if-bank-days-ge-FIFTH .left))
-        ]))
-    | else-is-bank-business-day w ↦
-        subst P (sym (w .bank-days-is)) (no-bank m (c .args .invoice-day) (c .loop-after .after) (c .loop-after .bank-days) (c .loop-after .inv) (sym (c .is-bank-business-day .ensures) ∙ w .if-is-bank-business-day .left))
+      | then-is-bank-business-day·else-bank-days-ge-FIFTH w ↦
+          (let bank : m .bank (c .args .invoice-day + c .loop-after .after + 1) ≡ true = sym (c .is-bank-business-day .ensures) ∙ w .if-is-bank-business-day .taken in
+          subst P (sym (w .bank-days-is)) (elim (w .else-bank-days-ge-FIFTH .came) [
+            | else-bank-days-ge-FIFTH·by·then-bank-days-ge-FIFTH·else-is-business-day w′ ↦
+                no-business m (c .args .invoice-day) (c .loop-after .after) (c .loop-after .bank-days) (c .loop-after .inv) bank (sym (w′ .is-business-day .ensures) ∙ w′ .if-is-business-day .left)
+            | else-bank-days-ge-FIFTH·by·else-bank-days-ge-FIFTH w′ ↦
+                early m (c .args .invoice-day) (c .loop-after .after) (c .loop-after .bank-days) (c .loop-after .inv) bank (omega (arith, w′ .if-bank-days-ge-FIFTH .left))
+          ]))
+      | else-is-bank-business-day w ↦
+          subst P (sym (w .bank-days-is)) (no-bank m (c .args .invoice-day) (c .loop-after .after) (c .loop-after .bank-days) (c .loop-after .inv) (sym (c .is-bank-business-day .ensures) ∙ w .if-is-bank-business-day .left))
     ]
 
 pub returns : need.returns

@@ -28,11 +28,11 @@ loop-j-again c =
     let theirs = rest-at (c .args .amount) xs (c .args .all) (c .loop-j .j) _ (c .pre .1 .0) (c .exact-share-theirs .ensures .rest) in
     let mine = rest-at (c .args .amount) xs (c .args .all) (c .args .i) _ (c .pre .1 .0) (c .exact-share-mine .ensures .rest) in
     let test : c .comes-first .result ≡ comesFirst (r (c .loop-j .j)) (c .loop-j .j) (r (c .args .i)) (c .args .i) =
-      c .comes-first .ensures ∙ ap (λ z. comesFirst z (c .loop-j .j) (c .exact-share-mine .result .1) (c .args .i)) theirs ∙ ap (λ z. comesFirst (r (c .loop-j .j)) (c .loop-j .j) z (c .args .i)) mine in
+    c .comes-first .ensures ∙ ap (λ z. comesFirst z (c .loop-j .j) (c .exact-share-mine .result .1) (c .args .i)) theirs ∙ ap (λ z. comesFirst (r (c .loop-j .j)) (c .loop-j .j) z (c .args .i)) mine in
     let more = count-more (λ j. comesFirst (r j) j (r (c .args .i)) (c .args .i)) (c .loop-j .j) in
     elim (c .if-comes-first .came) [
-      then-comes-first w ↦ omega (arith, w .before-is, more, ap oneIf (sym test ∙ w .if-comes-first .taken))
-    | else-comes-first w ↦ omega (arith, w .before-is, more, ap oneIf (sym test ∙ w .if-comes-first .left))
+      | then-comes-first w ↦ omega (arith, w .before-is, more, ap oneIf (sym test ∙ w .if-comes-first .taken))
+      | else-comes-first w ↦ omega (arith, w .before-is, more, ap oneIf (sym test ∙ w .if-comes-first .left))
     ]
 
 pub returns : need.returns

@@ -56,7 +56,7 @@ returns-in-Continue-self c =
     record {
       answer = taken (keptIn row) (Energy k) (c .args .determinant) _ q here read _ e;
       sums = ap (λ (zs : List ℤ). inOrder (record { energy = zs; intervals = keptIn row .intervals })) (map-set (λ e. e .sum) (row .energy) k _)
-        ∙ kept-added (keptIn row) (Energy k) (c .args .determinant) _ q here read (length-map (row .energy) (λ e. e .sum) ∙ row .thirteen) (length-map (row .intervals) (λ i. i .sum) ∙ row .three) _ e;
+          ∙ kept-added (keptIn row) (Energy k) (c .args .determinant) _ q here read (length-map (row .energy) (λ e. e .sum) ∙ row .thirteen) (length-map (row .intervals) (λ i. i .sum) ∙ row .three) _ e;
     }
 
 pub returns-in-Break-self-2 : need.returns-in-Break-self-2
@@ -98,5 +98,5 @@ returns-in-Continue-self-2 c =
     record {
       answer = taken (keptIn row) (Interval k) (c .args .determinant) _ q here read _ e;
       sums = ap (λ (zs : List ℤ). inOrder (record { energy = keptIn row .energy; intervals = zs })) (map-set (λ i. i .sum) (row .intervals) k _)
-        ∙ kept-added (keptIn row) (Interval k) (c .args .determinant) _ q here read (length-map (row .energy) (λ e. e .sum) ∙ row .thirteen) (length-map (row .intervals) (λ i. i .sum) ∙ row .three) _ e;
+          ∙ kept-added (keptIn row) (Interval k) (c .args .determinant) _ q here read (length-map (row .energy) (λ e. e .sum) ∙ row .thirteen) (length-map (row .intervals) (λ i. i .sum) ∙ row .three) _ e;
     }

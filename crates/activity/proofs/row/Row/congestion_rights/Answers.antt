@@ -8,5 +8,5 @@ use Rattle.activity.proofs.row.Row.congestion_rights.Needs as need
 pub returns : need.returns
 returns c =
     quadruple CongestionRights CongestionRights (sumsOf (c .args .self .now)) refl Opt Daobl Opts Obls _ _ _ _ _ _ _ (rights _)
-      (c .counted .ensures) (c .counted-2 .ensures) (c .counted-3 .ensures) (c .counted-4 .ensures) (c .plus-owned .ensures) (c .plus-sold .ensures) (c .plus .ensures)
-      (λ _. ((apart Opt refl, apart Daobl refl), (apart Opts refl, apart Obls refl)))
+    (c .counted .ensures) (c .counted-2 .ensures) (c .counted-3 .ensures) (c .counted-4 .ensures) (c .plus-owned .ensures) (c .plus-sold .ensures) (c .plus .ensures)
+    (λ _. ((apart Opt refl, apart Daobl refl), (apart Opts refl, apart Obls refl)))

@@ -27,9 +27,10 @@ pub loop-number-again : need.loop-number-again
 loop-number-again c =
     let v : ℕ → ℤ = λ n. groupValue (meaning (c .args .self .now) .rows) (c .args .parties .now) (c .args .party) (groupNumbered n) in
     let low : 2 ≤ c .loop-number .number = omega arith in
-    let here = c .group-value .ensures .is ∙ ap (groupValue (meaning (c .args .self .now) .rows) (c .args .parties .now) (c .args .party)) (c .group-numbered .ensures) in
-    ( top-more v (c .loop-number .number) _ _ _ low (c .loop-number .inv .0) here (c .larger-top .ensures)
-    , top-natural _ _ _ (c .larger-top .ensures) (c .loop-number .inv .1) )
+    let here = c .group-value .ensures .is ∙ ap (groupValue (meaning (c .args .self .now) .rows) (c .args .parties .now) (c .args .party)) (c .group-numbered .ensures) in (
+      top-more v (c .loop-number .number) _ _ _ low (c .loop-number .inv .0) here (c .larger-top .ensures),
+      top-natural _ _ _ (c .larger-top .ensures) (c .loop-number .inv .1),
+    )
 
 pub returns : need.returns
 unfolding activity
@@ -40,6 +41,6 @@ returns c =
     let fits : SFits w64 t = search needs in
     let ten : c .loop-number .number ≡ 10 = omega arith in
     let e : t ≡ largest (groupValues rows (c .args .parties .now) (c .args .party)) =
-      c .count .ensures ∙ c .loop-number .inv .0 ∙ ap (λ n. folded maxZ (v 1) (map v (counting 2 (n - 2)))) ten in
+    c .count .ensures ∙ c .loop-number .inv .0 ∙ ap (λ n. folded maxZ (v 1) (map v (counting 2 (n - 2)))) ten in
     let Natural : ℤ → Type 0 = λ z. pos 0 ≤ℤ z in
     simp toZ-ofZ (record { value = ap natAbs e; largest = pos-abs t _ e (subst Natural (sym (c .count .ensures)) (c .loop-number .inv .1)) })

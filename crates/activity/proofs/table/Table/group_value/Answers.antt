@@ -25,12 +25,12 @@ loop-k-again c =
     let Step : Quarters → Type 0 = λ q. SoFar (map sumsOf rows) parties party g Natural (k + 1) (q .count) in
     let lt : k < length rows = omega (arith, c .args .self .now .full) in
     elim (c .if-is-under .came) [
-      then-is-under w ↦
-        (let h = w .value .ensures in
-        subst Step (sym (w .sum-is)) (turn-yes (map sumsOf rows) parties party g Natural k (c .loop-k .sum .count) (w .value .result .count) _ (c .loop-k .inv) (sym (c .is-under .ensures) ∙ w .if-is-under .taken)
+      | then-is-under w ↦
+          (let h = w .value .ensures in
+          subst Step (sym (w .sum-is)) (turn-yes (map sumsOf rows) parties party g Natural k (c .loop-k .sum .count) (w .value .result .count) _ (c .loop-k .inv) (sym (c .is-under .ensures) ∙ w .if-is-under .taken)
           (record { is = h .is ∙ ap (rowValue g) (row-read rows k _ lt); small = h .small; natural = h .natural }) (w .plus-sum .ensures)))
-    | else-is-under w ↦
-        subst Step (sym (w .sum-is)) (turn-no (map sumsOf rows) parties party g Natural k (c .loop-k .sum .count) (c .loop-k .inv) (sym (c .is-under .ensures) ∙ w .if-is-under .left))
+      | else-is-under w ↦
+          subst Step (sym (w .sum-is)) (turn-no (map sumsOf rows) parties party g Natural k (c .loop-k .sum .count) (c .loop-k .inv) (sym (c .is-under .ensures) ∙ w .if-is-under .left))
     ]
 
 pub returns : need.returns

@@ -51,5 +51,5 @@ returns-in-Continue-add c =
     record {
       answer = taken-post t (c .args .state .now .month) k (c .args .determinant) (c .args .mark) q d (mapped indexOf (c .args .participant)) at counts (sym (c .if-not-carries .ensures tt)) (e .answer ∙ ap (λ s. addAnswer s d q) (row-read _ k _ lt));
       table = ap (λ (x : List Sums). record { month = t .month; rows = x }) (map-set sumsOf (c .args .self .now .rows) k _)
-        ∙ counted-table t (c .args .state .now .month) k (c .args .determinant) (c .args .mark) q d (mapped indexOf (c .args .participant)) at counts _ (e .sums ∙ ap (λ s. added s d q) (row-read _ k _ lt));
+          ∙ counted-table t (c .args .state .now .month) k (c .args .determinant) (c .args .mark) q d (mapped indexOf (c .args .participant)) at counts _ (e .sums ∙ ap (λ s. added s d q) (row-read _ k _ lt));
     }
