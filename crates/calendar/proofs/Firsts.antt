@@ -8,11 +8,11 @@ use native.Mathlib.Omega.{arith}
 use Rattle.std.proofs.shelf.Tests.{cases-lt}
 use Rattle.std.specs.declared.option.Option.{Option}
 use Rattle.std.specs.declared.option.Option.the-variants.{Some, None}
-use Rattle.foundation.specs.Counting.{oneIf, count}
-use Rattle.calendar.specs.Due.{firstAfter, orElse}
-
-pub true-false : (b : Bool) → b ≡ true → b ≡ false → ⊥
-true-false b t f = let z : _≡_ {A = ℕ} 0 1 = ap oneIf (sym f ∙ t) in omega arith
+use Rattle.std.specs.Options.{mapped}
+use Rattle.foundation.specs.Counting.{oneIf, count, first}
+use Rattle.foundation.proofs.Firsts as days
+use Rattle.foundation.proofs.Firsts.{First, true-false, first-on, first-hit}
+use Rattle.calendar.specs.Due.{firstAfter}
 
 -- how many of the n days after a day pass
 abbrev pub daysAfter : (ℕ → Bool) → ℕ → ℕ → ℕ
@@ -37,15 +37,12 @@ module _ (p : ℕ → Bool) (day : ℕ) where
   Firsts n (Some d) = (day < d) × (d ≤ day + n) × (p d ≡ true) × ((e : ℕ) → day < e → e < d → p e ≡ false)
   Firsts n None = (e : ℕ) → day < e → e ≤ day + n → p e ≡ false
 
-  step : (n : ℕ) (o : Option ℕ) → Firsts n o → (b : Bool) → p (day + suc n) ≡ b → Firsts (suc n) (orElse o (cond b (Some (day + suc n)) None))
-  step n (Some d) h b e = (h .0, omega (arith, h .1), h .2, h .3)
-  step n None h true e = (omega arith, omega arith, e, λ d lo hi. h d lo (omega arith))
-  step n None h false e = λ d lo hi.
-      elim (cases-lt d (day + suc n)) [ inl k ↦ h d lo (omega arith) | inr k ↦ (let s : d ≡ day + suc n = omega arith in rw s e) ]
+  to-days : (n : ℕ) (o : Option ℕ) → First (λ k. p (day + suc k)) n o → Firsts n (mapped (λ k. day + suc k) o)
+  to-days n (Some k) f = (omega arith, omega (arith, f .0), f .1, λ e lo hi. let s : e ≡ day + suc (e - day - 1) = omega arith in rw s (f .2 (e - day - 1) (omega arith)))
+  to-days n None f = λ e lo hi. let s : e ≡ day + suc (e - day - 1) = omega arith in rw s (f (e - day - 1) (omega arith))
 
   pub first-is : (n : ℕ) → Firsts n (firstAfter p day n)
-  first-is zero = λ e lo hi. absurd (omega arith)
-  first-is (suc n) = step n (firstAfter p day n) (first-is n) (p (day + suc n)) refl
+  first-is n = to-days n (first (λ k. p (day + suc k)) n) (days.first-is (λ k. p (day + suc k)) n)
 
   found : (n : ℕ) (o : Option ℕ) → Firsts n o → (d : ℕ) → day < d → d ≤ day + n → p d ≡ true → ((e : ℕ) → day < e → e < d → p e ≡ false) → o ≡ Some d
   found n None h d lo hi on before = absurd (true-false (p d) on (h d lo hi))
@@ -62,10 +59,12 @@ module _ (p : ℕ → Bool) (day : ℕ) where
   first-found n = found n (firstAfter p day n) (first-is n)
 
   -- one turn of a loop
+  none-of : (o : Option ℕ) → mapped (λ k. day + suc k) o ≡ None → o ≡ None
+  none-of None e = refl
+  none-of (Some k) e = cc
+
   pub turn-on : (k : ℕ) → firstAfter p day k ≡ None → p (day + suc k) ≡ false → firstAfter p day (k + 1) ≡ None
-  turn-on k none off = rw add-one (ap (λ o. orElse o (cond (p (day + suc k)) (Some (day + suc k)) None)) none ∙ ap (λ b. cond b (Some (day + suc k)) None) off)
+  turn-on k none off = ap (mapped (λ k. day + suc k)) (first-on (λ k. p (day + suc k)) k (none-of _ none) off)
 
   pub turn-hit : (k n : ℕ) → k < n → firstAfter p day k ≡ None → p (day + suc k) ≡ true → firstAfter p day n ≡ Some (day + suc k)
-  turn-hit k n lt none on =
-      let before : Firsts k None = subst (Firsts k) none (first-is k) in
-      first-found n (day + suc k) (omega arith) (omega arith) on (λ e lo hi. before e lo (omega arith))
+  turn-hit k n lt none on = ap (mapped (λ k. day + suc k)) (first-hit (λ k. p (day + suc k)) k n lt (none-of _ none) on)

@@ -1,22 +1,18 @@
 -- The due day of an invoice. Assumes nothing.
 use mathlib.Core.Path.{_≡_}
-use mathlib.Core.Bool.{Bool, true, false, cond, _&&_}
-use Prim.Native.Nat.{ℕ, zero, suc, _+_, _-_, _≤_, _<_, min}
+use mathlib.Core.Bool.{Bool, true, false, _&&_}
+use Prim.Native.Nat.{ℕ, suc, _+_, _-_, _≤_, _<_, min}
 use lib.Dec.{leb}
+use Rattle.std.specs.Options.{mapped}
 use Rattle.std.specs.declared.option.Option.{Option}
-use Rattle.std.specs.declared.option.Option.the-variants.{Some, None}
-use Rattle.foundation.specs.Counting.{count}
+use Rattle.std.specs.declared.option.Option.the-variants.{Some}
+use Rattle.foundation.specs.Counting.{count, first}
 use Rattle.foundation.specs.Limits.{lastDay}
 use Rattle.calendar.specs.Meaning.{CalendarMeaning}
 
-abbrev pub orElse : Option ℕ → Option ℕ → Option ℕ
-orElse (Some day) other = Some day
-orElse None other = other
-
 -- the first of the n days after a day that passes
 abbrev pub firstAfter : (ℕ → Bool) → ℕ → ℕ → Option ℕ
-firstAfter p day zero = None
-firstAfter p day (suc n) = orElse (firstAfter p day n) (cond (p (day + suc n)) (Some (day + suc n)) None)
+firstAfter p day n = mapped (λ k. day + suc k) (first (λ k. p (day + suc k)) n)
 
 -- how many Bank Business Days there are after the invoice day, up to and with a day
 abbrev pub bankDays : CalendarMeaning → ℕ → ℕ → ℕ

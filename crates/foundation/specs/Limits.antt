@@ -24,3 +24,15 @@ mostAmount = 1000000000
 -- all activities of a month together, in quarters of a kWh
 abbrev pub mostActivity : ℕ
 mostActivity = 8000000000
+
+-- cash, and the face of a letter of credit, in cents
+abbrev pub mostSecurity : ℕ
+mostSecurity = 10000000000
+
+-- where an instrument holds more cents, this is answered
+abbrev pub mostHeld : ℕ
+mostHeld = 1000000000000000
+
+-- 17:00, until which an invoice may be paid on its due day
+abbrev pub dueMinute : ℕ
+dueMinute = 1020

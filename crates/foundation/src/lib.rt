@@ -17,3 +17,12 @@ pub const MOST_AMOUNT: u64 = 1_000_000_000;
 
 // All activities of a month together, in quarters of a kWh.
 pub const MOST_ACTIVITY: u64 = 8_000_000_000;
+
+// Cash, and the face of a letter of credit, in cents.
+pub const MOST_SECURITY: u64 = 10_000_000_000;
+
+// Where an instrument holds more cents, this is answered.
+pub const MOST_HELD: u64 = 1_000_000_000_000_000;
+
+// 17:00, until which an invoice may be paid on its due day.
+pub const DUE_MINUTE: u16 = 1_020;
