@@ -1,0 +1,6 @@
+pub mod Lists
+pub mod Rows
+pub mod Runs
+pub mod RunLaws
+pub mod Issues
+pub mod Payments

@@ -1,0 +1,10 @@
+use mathlib.Core.Path.{_≡_}
+use lib.Dec.{eqb}
+use lib.ListN.{getD}
+use Rattle.std.specs.declared.option.Option.the-variants.{None}
+use Rattle.foundation.specs.Counting.{first}
+use Rattle.receivables.specs.Invoices.{nothing}
+use Rattle.receivables.proofs.book.calls.place_of.Given as given
+
+abbrev pub Inv-loop-k : given.InvT-loop-k
+Inv-loop-k l = first (λ k. eqb (getD (l .list) k nothing .number) (l .number)) (l .k) ≡ None
