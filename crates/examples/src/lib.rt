@@ -2,11 +2,15 @@
 ghost use Rattle.examples.specs.WorkedExamples.{WorkedExamples};
 
 #[cfg(test)]
+mod collections;
+#[cfg(test)]
 mod habits;
 #[cfg(test)]
 mod months;
 #[cfg(test)]
 mod refusals;
+#[cfg(test)]
+mod securities;
 #[cfg(test)]
 mod times;
 
