@@ -75,6 +75,9 @@ fn payments(rt: LibcRuntime) -> Result<(), Fail> {
     check_eq(number_of(book.pay(1, 26, 101)), 27)?;
     check_eq(balance_at(book.invoices(), 0), 100)?;
     check_eq(book.pay(1, 26, 33).ok(), Some(67))?;
+    check_eq(book.owed_by(7), 67)?;
+    check_eq(book.owed_by(8), 0)?;
+    check_eq(book.owed_by(9), 50)?;
     check_eq(book.pay(1, 26, 67).ok(), Some(0))?;
     check_eq(number_of(book.pay(1, 26, 1)), 25)
 }

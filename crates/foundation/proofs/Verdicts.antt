@@ -1,9 +1,10 @@
 -- Questions in two lists, one after the other.
-use mathlib.Core.Path.{_≡_, refl}
+use mathlib.Core.Path.{_≡_, refl, sym, _∙_}
 use mathlib.Core.Bool.{Bool, true, false, cond}
 use mathlib.Core.List.{List, [], _∷_, _++_}
 use Prim.Native.Nat.{ℕ}
 use native.Mathlib.Omega.{arith}
+use Rattle.std.proofs.shelf.Tests.{cond-true}
 use Rattle.std.specs.shelf.Lists.{All}
 use Rattle.std.specs.declared.result.Result.{Result}
 use Rattle.std.specs.declared.result.Result.the-variants.{Ok, Err}
@@ -32,3 +33,12 @@ all-hold (q ∷ qs) u x h = go (q .holds) refl (λ k. all-hold qs u x k) h where
   go : (b : Bool) → q .holds ≡ b → (verdict qs u ≡ Ok x → All (λ p. p .holds ≡ true) qs) → cond b (verdict qs u) (Err (q .refusal)) ≡ Ok x → All (λ p. p .holds ≡ true) (q ∷ qs)
   go true e rest k = (e, rest k)
   go false e rest k = let z : _≡_ {A = ℕ} 0 1 = cc in absurd (omega arith)
+
+-- where all hold, the answer is the value
+pub all-ok : {F X : Type 0} (qs : List (Question F)) (v : X) → All (λ q. q .holds ≡ true) qs → verdict qs v ≡ Ok v
+all-ok [] v h = refl
+all-ok (q ∷ qs) v h = cond-true (q .holds) (verdict qs v) (Err (q .refusal)) (h .0) ∙ all-ok qs v (h .1)
+
+-- and an answer is that value
+pub the-value : {F X : Type 0} (qs : List (Question F)) (u x : X) → Ok x ≡ verdict qs u → x ≡ u
+the-value qs u x h = let e = h ∙ all-ok qs u (all-hold qs u x (sym h)) in cc

@@ -36,3 +36,15 @@ mostHeld = 1000000000000000
 -- 17:00, until which an invoice may be paid on its due day
 abbrev pub dueMinute : ℕ
 dueMinute = 1020
+
+-- a ledger has at most this many Counter-Parties
+abbrev pub mostCounterParties : ℕ
+mostCounterParties = 32
+
+-- month 0 is January 2020, and this one December 2099
+abbrev pub lastMonth : ℕ
+lastMonth = 959
+
+-- one funding, in cents
+abbrev pub mostFunding : ℕ
+mostFunding = 1000000000

@@ -26,3 +26,12 @@ pub const MOST_HELD: u64 = 1_000_000_000_000_000;
 
 // 17:00, until which an invoice may be paid on its due day.
 pub const DUE_MINUTE: u16 = 1_020;
+
+// A ledger has at most this many Counter-Parties.
+pub const MOST_COUNTER_PARTIES: usize = 32;
+
+// Month 0 is January 2020, and this one December 2099.
+pub const LAST_MONTH: u16 = 959;
+
+// One funding, in cents.
+pub const MOST_FUNDING: u64 = 1_000_000_000;

@@ -4,3 +4,4 @@ pub mod Runs
 pub mod RunLaws
 pub mod Issues
 pub mod Payments
+pub mod Owed

@@ -1,7 +1,9 @@
 -- What becomes of an invoice by each event, and when it is past due. Assumes nothing.
 use mathlib.Core.Bool.{Bool, true, false, cond, not}
+use mathlib.Core.List.{List}
 use Prim.Native.Nat.{ℕ, _-_}
-use lib.Dec.{ltb}
+use lib.Dec.{eqb, ltb}
+use Rattle.std.specs.shelf.Lists.{sumBy}
 use Rattle.foundation.specs.Limits.{dueMinute}
 use Rattle.calendar.specs.Moments.{When, before}
 use Rattle.receivables.specs.declared.invoice.State.{State}
@@ -43,6 +45,10 @@ unsettled v = not (isSettled (v .state))
 -- past due after minute 1,020 of the due day
 abbrev pub isPastDue : When → Invoice → Bool
 isPastDue at v = before (record { day = v .«due_day»; minute = dueMinute }) at
+
+-- what a Counter-Party owes on its invoices
+abbrev pub owedBy : List Invoice → ℕ → ℕ
+owedBy vs party = sumBy (λ v. cond (eqb (v .billed) party) (v .balance) 0) vs
 
 -- what stands past a list's end
 abbrev pub nothing : Invoice

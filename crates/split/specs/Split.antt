@@ -55,5 +55,5 @@ unfoldable pub charges : ℕ → List ℕ → List ℕ
 charges amount xs = map (charge amount xs) (counting 0 (length xs))
 
 -- charges in a table of n places, 0 past the last
-abbrev pub laidOut : List ℕ → ℕ → List ℕ
+unfoldable pub laidOut : List ℕ → ℕ → List ℕ
 laidOut cs n = map (λ i. getD cs i 0) (counting 0 n)

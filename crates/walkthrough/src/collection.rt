@@ -169,7 +169,7 @@ fn run(
 }
 
 // Carries the charges from their invoices to the draws for what is past due.
-pub fn carry_out(rt: &LibcRuntime, charges: [u64; 2]) -> Result<(), AnyError> {
+pub(crate) fn carry_out(rt: &LibcRuntime, charges: [u64; 2]) -> Result<(), AnyError> {
     let weekly = Weekly::new(&[BANK_HOLIDAY], &[]);
     let Some(day) = due_day(&weekly, INVOICE_DAY) else {
         return Err("no due day".into());

@@ -222,7 +222,7 @@ fn split_charges(rt: &impl Print, table: &Table, month: &Closed) -> io::Result<[
 }
 
 // Carries the month from its opening to its charges.
-pub fn carry_out(rt: &impl Print) -> io::Result<[u64; 2]> {
+pub(crate) fn carry_out(rt: &impl Print) -> io::Result<[u64; 2]> {
     let mut table = Table::new();
     println!(rt, "Month {REFERENCE_MONTH} is open.")?;
     let collecting = table.open(REFERENCE_MONTH);

@@ -1,14 +1,15 @@
 // Making receivables, looking into them, and paying.
 ghost use mathlib.Core.Path.{_≡_};
+ghost use Prim.Native.Nat.{_≤_};
 ghost use lib.Dec.{eqb};
 ghost use lib.ListN.{length, getD};
 ghost use Rattle.std.specs.Of.Vec.{vec-items, vec-cap};
 ghost use Rattle.std.specs.Vec.{made};
-ghost use Rattle.std.specs.shelf.Lists.{kept-by};
+ghost use Rattle.std.specs.shelf.Lists.{All, kept-by};
 ghost use Rattle.foundation.specs.Counting.{first};
 ghost use Rattle.foundation.specs.Questions.{after};
 ghost use Rattle.receivables.specs.Books.{bookOf, newBook};
-ghost use Rattle.receivables.specs.Invoices.{nothing, unsettled};
+ghost use Rattle.receivables.specs.Invoices.{nothing, owedBy, unsettled};
 ghost use Rattle.receivables.specs.Payments.{payAnswer, afterPay};
 use super::Receivables;
 use crate::fault::Fault;
@@ -45,6 +46,21 @@ fn place_of(list: &[Invoice], number: u32) -> Option<usize>
     None
 }
 
+// What a Counter-Party owes on the invoices of a list.
+fn owed_in(list: &[Invoice], counter_party: u16) -> u64
+    requires few { ⌜ length (now list) ≤ 4294967295 ⌝ }
+    requires small { ⌜ All (λ v. v .balance ≤ 4294967295) (now list) ⌝ }
+    ensures { λ r. ⌜ r ≡ owedBy (now (list .entry)) «counter_party» ⌝ }
+{
+    let mut owed = 0;
+    for invoice in list {
+        if invoice.billed == counter_party {
+            owed += invoice.balance;
+        }
+    }
+    owed
+}
+
 impl<const PLACES: usize> Receivables<PLACES> {
     // Without invoices, and with the memory for all that can be.
     pub fn new(heap: Global, account: u16) -> Result<Receivables<PLACES>, AllocError>
@@ -63,6 +79,13 @@ impl<const PLACES: usize> Receivables<PLACES> {
         ensures { λ r. ⌜ now r ≡ bookOf (now (self .entry)) .invoices ⌝ }
     {
         self.list.as_slice()
+    }
+
+    // What a Counter-Party owes on its invoices.
+    pub fn owed_by(&self, counter_party: u16) -> u64
+        ensures { λ r. ⌜ r ≡ owedBy (bookOf (now (self .entry)) .invoices) «counter_party» ⌝ }
+    {
+        owed_in(self.list.as_slice(), counter_party)
     }
 
     // Pays on the invoice with a number, and answers the balance left.

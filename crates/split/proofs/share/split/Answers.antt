@@ -24,6 +24,7 @@ charge-at-requires c κs =
     (subst P (sym (c .cents-cents .ensures)) (ok .1), (ok .0, c .leftover-of-left .ensures))
 
 pub returns : need.returns
+unfolding laidOut
 returns c =
     let a = c .args .amount in
     let xs = c .args .activities .now in

@@ -1,0 +1,10 @@
+pub mod RegistryFaults
+pub mod Faults
+pub mod Months
+pub mod Registries
+pub mod Enrolment
+pub mod Model
+pub mod Raised
+pub mod Pay
+pub mod Bill
+pub mod Secure
