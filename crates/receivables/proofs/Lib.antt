@@ -5,3 +5,4 @@ pub mod RunLaws
 pub mod Issues
 pub mod Payments
 pub mod Owed
+pub mod Owing

@@ -70,7 +70,7 @@ module _ (b : Book) (n account amount : ℕ) where
       taken on = sym (cond-true _ _ _ has ∙ cond-true _ _ _ (eq-eqb account (b .account) same) ∙ cond-true _ _ _ on)
 
 -- ---- just one invoice has the number
-others-same : (n amount : ℕ) (vs : List Invoice) → All (λ u. n < u .number) vs → map (paidOn n amount) vs ≡ vs
+pub others-same : (n amount : ℕ) (vs : List Invoice) → All (λ u. n < u .number) vs → map (paidOn n amount) vs ≡ vs
 others-same n amount [] above = refl
 others-same n amount (v ∷ vs) above =
     ap (λ w. w ∷ map (paidOn n amount) vs) (cond-false _ _ _ (ne-eqb (v .number) n (λ e. omega (arith, above .0)))) ∙ ap (λ ws. v ∷ ws) (others-same n amount vs (above .1))
@@ -80,7 +80,7 @@ number-at low high [] k l lt = absurd (omega arith)
 number-at low high (v ∷ vs) zero l lt = l .0
 number-at low high (v ∷ vs) (suc k) l lt = omega (arith, l .0, number-at (v .number + 1) high vs k (l .2) (omega arith))
 
-all-later : (n : ℕ) (vs : List Invoice) → All (λ u. n + 1 ≤ u .number) vs → All (λ u. n < u .number) vs
+pub all-later : (n : ℕ) (vs : List Invoice) → All (λ u. n + 1 ≤ u .number) vs → All (λ u. n < u .number) vs
 all-later n [] a = tt
 all-later n (u ∷ vs) a = (omega (arith, a .0), all-later n vs (a .1))
 

@@ -25,7 +25,7 @@ use Rattle.receivables.specs.Run.{paid, heldAfter, drawnOn, helds, drawnAll, d
 use Rattle.receivables.proofs.Lists.{Standing, Listed, told-fine, told-number, numbers-from}
 
 -- ---- what an event keeps
-told-in-position : (t : State) (v : Invoice) (e : Event) → toldIn t v e .position ≡ v .position
+pub told-in-position : (t : State) (v : Invoice) (e : Event) → toldIn t v e .position ≡ v .position
 told-in-position Open v (Payment n) = refl
 told-in-position Open v (Draw n) = refl
 told-in-position Open v PastDue = refl
@@ -43,7 +43,7 @@ told-in-due Short v (Draw n) = refl
 told-in-due Short v PastDue = refl
 told-in-due Settled v e = refl
 
-drawn-position : (hs : List ℕ) (v : Invoice) → drawnOn hs v .position ≡ v .position
+pub drawn-position : (hs : List ℕ) (v : Invoice) → drawnOn hs v .position ≡ v .position
 drawn-position hs v = told-in-position _ (told v (Draw (paid hs v))) PastDue ∙ told-in-position _ v (Draw (paid hs v))
 
 drawn-number : (hs : List ℕ) (v : Invoice) → drawnOn hs v .number ≡ v .number
@@ -67,7 +67,7 @@ drawn-balance : (hs : List ℕ) (v : Invoice) → Standing v → drawnOn hs v .b
 drawn-balance hs v s = told-past _ (told v (Draw (paid hs v))) ∙ told-draw (v .state) v (paid hs v) refl (s .here)
 
 -- ---- what was settled by an event asks nothing any more
-Clear : Invoice → Type 0
+unfoldable pub Clear : Invoice → Type 0
 Clear v = unsettled v ≡ false → v .balance ≡ 0
 
 lowered-clear : (v : Invoice) (n : ℕ) → unsettled v ≡ true → Clear (lowered v n)
@@ -77,7 +77,7 @@ lowered-clear v n here = go (ltb n (v .balance)) refl where
   go true t u = absurd (true-false (unsettled v) here (rw t at u))
   go false t u = omega (arith, ltb-false n (v .balance) t)
 
-told-in-clear : (t : State) (v : Invoice) (e : Event) → v .state ≡ t → Clear v → Clear (toldIn t v e)
+pub told-in-clear : (t : State) (v : Invoice) (e : Event) → v .state ≡ t → Clear v → Clear (toldIn t v e)
 unfolding Clear
 told-in-clear Open v (Payment n) q f = lowered-clear v n (rw q refl)
 told-in-clear Open v (Draw n) q f = lowered-clear v n (rw q refl)
@@ -87,11 +87,11 @@ told-in-clear Short v (Draw n) q f = lowered-clear v n (rw q refl)
 told-in-clear Short v PastDue q f = λ u. absurd (true-false true refl u)
 told-in-clear Settled v e q f = f
 
-standing-clear : (v : Invoice) → Standing v → Clear v
+pub standing-clear : (v : Invoice) → Standing v → Clear v
 unfolding Clear
 standing-clear v s u = absurd (true-false (unsettled v) (s .here) u)
 
-drawn-clear : (hs : List ℕ) (v : Invoice) → Standing v → Clear (drawnOn hs v)
+pub drawn-clear : (hs : List ℕ) (v : Invoice) → Standing v → Clear (drawnOn hs v)
 drawn-clear hs v s = told-in-clear _ (told v (Draw (paid hs v))) PastDue refl (told-in-clear _ v (Draw (paid hs v)) refl (standing-clear v s))
 
 -- ---- the row
@@ -112,7 +112,7 @@ sum-after [] i b = omega arith
 sum-after (h ∷ hs) zero b = omega (arith, sumBy-cons (λ x. x) (h - b) hs, sumBy-cons (λ x. x) h hs)
 sum-after (h ∷ hs) (suc i) b = omega (arith, sumBy-cons (λ x. x) h (set hs i (getD hs i 0 - b)), sumBy-cons (λ x. x) h hs, sum-after hs i b)
 
-same-or-not : (i j : ℕ) → (i ≡ j) ⊎ (i ≡ j → ⊥)
+pub same-or-not : (i j : ℕ) → (i ≡ j) ⊎ (i ≡ j → ⊥)
 same-or-not i j = elim (cases-lt i j) [ inl k ↦ inr (λ e. omega arith) | inr k ↦ elim (cases-lt j i) [ inl l ↦ inr (λ e. omega arith) | inr l ↦ inl (omega arith) ] ]
 
 module _ (past : Invoice → Bool) where
@@ -160,13 +160,13 @@ module _ (past : Invoice → Bool) where
       elim (past v) as (λ b. getD (helds past vs (cond b (heldAfter hs v) hs)) j 0 ≤ getD hs j 0) [ true ↦ omega (arith, late, step) | false ↦ omega (arith, early) ]
 
 -- ---- the settled ones are out, and asked nothing
-swept-head : (w : Invoice) (ws : List Invoice) (f : Invoice → ℕ) (g : List Invoice → ℕ) → ((v : Invoice) (vs : List Invoice) → g (v ∷ vs) ≡ f v + g vs) → (unsettled w ≡ false → f w ≡ 0) → g (cond (unsettled w) (w ∷ ws) ws) ≡ f w + g ws
+pub swept-head : (w : Invoice) (ws : List Invoice) (f : Invoice → ℕ) (g : List Invoice → ℕ) → ((v : Invoice) (vs : List Invoice) → g (v ∷ vs) ≡ f v + g vs) → (unsettled w ≡ false → f w ≡ 0) → g (cond (unsettled w) (w ∷ ws) ws) ≡ f w + g ws
 swept-head w ws f g adds none = go (unsettled w) refl where
   go : (b : Bool) → unsettled w ≡ b → g (cond b (w ∷ ws) ws) ≡ f w + g ws
   go true t = adds w ws
   go false t = omega (arith, none t)
 
-asks-none : (b : Bool) (n : ℕ) → n ≡ 0 → cond b n 0 ≡ 0
+pub asks-none : (b : Bool) (n : ℕ) → n ≡ 0 → cond b n 0 ≡ 0
 asks-none true n e = e
 asks-none false n e = refl
 

@@ -2,8 +2,9 @@
 use mathlib.Core.Bool.{Bool, cond, _&&_}
 use mathlib.Core.List.{List, [], _∷_, _++_}
 use Prim.Native.Nat.{ℕ, _+_}
-use lib.Dec.{leb, ltb}
+use lib.Dec.{eqb, leb, ltb}
 use lib.ListN.{length}
+use Rattle.std.specs.shelf.Lists.{sumBy}
 use Rattle.std.specs.declared.result.Result.{Result}
 use Rattle.foundation.specs.Questions.{asks, verdict}
 use Rattle.receivables.specs.declared.charge.Charge.{Charge}
@@ -27,6 +28,10 @@ positive (c ∷ cs) = cond (ltb 0 (c .cents)) (1 + positive cs) (positive cs)
 abbrev pub issuedFrom : ℕ → ℕ → List Charge → List Invoice
 issuedFrom n due [] = []
 issuedFrom n due (c ∷ cs) = cond (ltb 0 (c .cents)) (issued n due c ∷ issuedFrom (n + 1) due cs) (issuedFrom n due cs)
+
+-- what the charges ask of a Counter-Party
+abbrev pub chargedTo : List Charge → ℕ → ℕ
+chargedTo cs party = sumBy (λ c. cond (eqb (c .billed) party) (c .cents) 0) cs
 
 -- is there a place for each? Numbers have 32 bits
 abbrev pub arePlaces : ℕ → Book → List Charge → Bool

@@ -4,6 +4,8 @@ use mathlib.Core.List.{List, [], _∷_, map}
 use Prim.Native.Nat.{ℕ, _-_}
 use lib.Dec.{leb, eqb}
 use Rattle.std.specs.shelf.Lists.{kept-by}
+use Rattle.std.specs.declared.option.Option.{Option}
+use Rattle.std.specs.declared.option.Option.the-variants.{Some, None}
 use Rattle.std.specs.declared.result.Result.{Result}
 use Rattle.foundation.specs.Questions.{Question, asks, verdict}
 use Rattle.receivables.specs.declared.fault.Fault.{Fault}
@@ -22,6 +24,16 @@ hasNumber (v ∷ vs) n = eqb (v .number) n || hasNumber vs n
 abbrev pub balanceOf : List Invoice → ℕ → ℕ
 balanceOf [] n = 0
 balanceOf (v ∷ vs) n = cond (eqb (v .number) n) (v .balance) (balanceOf vs n)
+
+-- whom the invoice with a number bills, nobody where there is none
+abbrev pub billedOf : List Invoice → ℕ → Option ℕ
+billedOf [] n = None
+billedOf (v ∷ vs) n = cond (eqb (v .number) n) (Some (v .billed)) (billedOf vs n)
+
+-- n for the Counter-Party that is billed, and 0 for any other
+abbrev pub countsFor : ℕ → Option ℕ → ℕ → ℕ
+countsFor party None n = 0
+countsFor party (Some billed) n = cond (eqb billed party) n 0
 
 abbrev pub payAsks : Book → ℕ → ℕ → ℕ → List (Question Fault)
 payAsks b n account amount =
