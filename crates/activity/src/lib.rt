@@ -1,4 +1,6 @@
 // The market activity of a reference month: records in, one activity for each Counter-Party out.
+#![tactic(auto)]
+
 mod month;
 mod position;
 mod row;

@@ -1,4 +1,6 @@
 // Days, moments, calendars and the due day of an invoice.
+#![tactic(auto)]
+
 mod due;
 mod meaning;
 mod moment;

@@ -1,4 +1,5 @@
 // A charter of thirty years: what was billed, paid, funded and drawn, and that the money adds up.
+#![tactic(auto)]
 
 mod calls;
 mod days;

@@ -1,4 +1,6 @@
 // The worked examples of the rules, proved, and tests of the calls on examples.
+#![tactic(auto)]
+
 ghost use Rattle.examples.specs.WorkedExamples.{WorkedExamples};
 
 #[cfg(test)]

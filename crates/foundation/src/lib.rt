@@ -1,4 +1,5 @@
 // What every layer stands on: the numbers that the rules fix, questions asked in order, sums over places.
+#![tactic(auto)]
 
 // Day 0 is Wednesday 1 January 2020, and this one 31 December 2099.
 pub const LAST_DAY: u16 = 29_219;

@@ -1,4 +1,6 @@
 // One pool's ledger: registering, billing, paying, securing and drawing.
+#![tactic(auto)]
+
 mod answers;
 mod fault;
 mod ledger;

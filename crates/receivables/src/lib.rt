@@ -1,4 +1,6 @@
 // Invoices, the payments on them and the draws for those past due.
+#![tactic(auto)]
+
 mod book;
 mod charge;
 mod draws;

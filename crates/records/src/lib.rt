@@ -1,4 +1,6 @@
 // Interval records: determinants, marks, and which records are refused, counted or left out.
+#![tactic(auto)]
+
 mod determinant;
 mod fault;
 mod ruling;

@@ -1,4 +1,6 @@
 // The invoice number that a payment's remark names.
+#![tactic(auto)]
+
 ghost use Rattle.std.specs.Prelude.{◌≡◌, ◌≤◌};
 ghost use Rattle.remarks.specs.Digits.{most_of};
 ghost use Rattle.remarks.specs.Remarks.{is_digit, is_mark, read_number, named, NamedAnswer};

@@ -1,4 +1,6 @@
 // A Counter-Party's security: what an instrument holds, and how it is drawn and funded.
+#![tactic(auto)]
+
 mod cash;
 mod instrument;
 mod letter;

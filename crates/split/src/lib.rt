@@ -1,4 +1,6 @@
 // An amount of cents, shared by activity.
+#![tactic(auto)]
+
 mod amount;
 mod fault;
 mod share;

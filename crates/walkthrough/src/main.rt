@@ -1,4 +1,5 @@
 // One month, from its interval records to invoices, a part payment and the draws on security.
+#![tactic(auto)]
 
 mod collection;
 mod month;
