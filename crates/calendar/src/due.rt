@@ -13,8 +13,8 @@ const MOST_DAYS: u16 = 30;
 
 // The fifth Bank Business Day after the invoice day; if that is no Business Day, the next later day that is both.
 pub fn due_day<C: Calendar>(calendar: &C, invoice_day: u16) -> Option<u16>
-    ensures rule { result ≡ due_day_of (meaning calendar.now) invoice_day }
-    ensures law { DueAnswer (meaning calendar.now) invoice_day result }
+    ensures rule { result ≡ due_day_of (C.meaning calendar.now) invoice_day }
+    ensures law { DueAnswer (C.meaning calendar.now) invoice_day result }
 {
     let span = LAST_DAY.saturating_sub(invoice_day).min(MOST_DAYS);
     let mut bank_days: u16 = 0;

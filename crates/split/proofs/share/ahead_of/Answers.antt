@@ -4,18 +4,18 @@ use Rattle.foundation.proofs.Totals.{count-more, count-few}
 use Rattle.split.specs.Split.{ahead, comes_first, remainder}
 use Rattle.split.proofs.Summed.{activity-fits, rest_at}
 use Rattle.split.proofs.share.ahead_of.Goals as goal
-use Rattle.split.proofs.share.ahead_of.Goals.{then-comes-first, else-comes-first}
+use Rattle.split.proofs.share.ahead_of.Goals.{then-comes_first, else-comes_first}
 
-pub exact-share-mine-requires : goal.exact-share-mine-requires
-exact-share-mine-requires c =
+pub exact_share-mine-requires : goal.exact_share-mine-requires
+exact_share-mine-requires c =
     (omega arith, (activity-fits c.args.amount c.args.activities.now c.args.i c.requires.0 (omega arith), omega arith))
 
-pub exact-share-theirs-requires : goal.exact-share-theirs-requires
-exact-share-theirs-requires c =
+pub exact_share-theirs-requires : goal.exact_share-theirs-requires
+exact_share-theirs-requires c =
     (omega arith, (activity-fits c.args.amount c.args.activities.now c.loop-j.j c.requires.0 (omega arith), omega arith))
 
-pub overflow-add-before : goal.overflow-add-before
-overflow-add-before c =
+pub overflow_add-before : goal.overflow_add-before
+overflow_add-before c =
     let r = remainder c.args.amount c.args.activities.now in
     omega (arith, count-few (λ j. comes_first (r j) j (r c.args.i) c.args.i) c.loop-j.j)
 
@@ -23,14 +23,14 @@ pub loop-j-preserved : goal.loop-j-preserved
 loop-j-preserved c =
     let xs = c.args.activities.now in
     let r = remainder c.args.amount xs in
-    let theirs = rest_at c.args.amount xs c.args.all c.loop-j.j _ c.requires.1.0 c.exact-share-theirs.ensures.rest in
-    let mine = rest_at c.args.amount xs c.args.all c.args.i _ c.requires.1.0 c.exact-share-mine.ensures.rest in
-    let test : c.comes-first.result ≡ comes_first (r c.loop-j.j) c.loop-j.j (r c.args.i) c.args.i =
-    c.comes-first.ensures ∙ ap (λ z. comes_first z c.loop-j.j c.exact-share-mine.result.1 c.args.i) theirs ∙ ap (λ z. comes_first (r c.loop-j.j) c.loop-j.j z c.args.i) mine in
+    let theirs = rest_at c.args.amount xs c.args.all c.loop-j.j _ c.requires.1.0 c.exact_share-theirs.ensures.rest in
+    let mine = rest_at c.args.amount xs c.args.all c.args.i _ c.requires.1.0 c.exact_share-mine.ensures.rest in
+    let test : c.comes_first.result ≡ comes_first (r c.loop-j.j) c.loop-j.j (r c.args.i) c.args.i =
+    c.comes_first.ensures ∙ ap (λ z. comes_first z c.loop-j.j c.exact_share-mine.result.1 c.args.i) theirs ∙ ap (λ z. comes_first (r c.loop-j.j) c.loop-j.j z c.args.i) mine in
     let more = count-more (λ j. comes_first (r j) j (r c.args.i) c.args.i) c.loop-j.j in
-    elim c.if-comes-first.branch [
-      | then-comes-first w ↦ omega (arith, w.before-is, more, ap one_if (sym test ∙ w.if-comes-first.true))
-      | else-comes-first w ↦ omega (arith, w.before-is, more, ap one_if (sym test ∙ w.if-comes-first.false))
+    elim c.if-comes_first.branch [
+      | then-comes_first w ↦ omega (arith, w.before-is, more, ap one_if (sym test ∙ w.if-comes_first.true))
+      | else-comes_first w ↦ omega (arith, w.before-is, more, ap one_if (sym test ∙ w.if-comes_first.false))
     ]
 
 pub returns : goal.returns

@@ -14,28 +14,28 @@ returns-then-i-activities c =
     let xs = c.args.activities.now in
     sym (get_or_past (charges c.args.amount xs) c.args.i 0 (omega (arith, charges-long c.args.amount xs)))
 
-pub exact-share-whole-requires : goal.exact-share-whole-requires
-exact-share-whole-requires c =
+pub exact_share-whole-requires : goal.exact_share-whole-requires
+exact_share-whole-requires c =
     (omega arith, (activity-fits c.args.amount c.args.activities.now c.args.i c.requires.0 (omega arith), omega arith))
 
-pub overflow-add-result : goal.overflow-add-result
-overflow-add-result c =
+pub overflow_add-result : goal.overflow_add-result
+overflow_add-result c =
     let xs = c.args.activities.now in
-    let here = whole-at c.args.amount xs c.args.all c.args.i _ c.requires.1.0 c.exact-share-whole.ensures.whole in
+    let here = whole-at c.args.amount xs c.args.all c.args.i _ c.requires.1.0 c.exact_share-whole.ensures.whole in
     omega (arith, here, total-more (whole_part c.args.amount xs) c.args.i, front-le c.args.amount xs c.requires.0.sum_some (c.args.i + 1) (omega arith))
 
-pub returns-then-ahead-of-left : goal.returns-then-ahead-of-left
-returns-then-ahead-of-left c =
+pub returns-then-ahead_of-left : goal.returns-then-ahead_of-left
+returns-then-ahead_of-left c =
     let amount = c.args.amount in
     let xs = c.args.activities.now in
     let i = c.args.i in
-    let here = whole-at amount xs c.args.all i _ c.requires.1.0 c.exact-share-whole.ensures.whole in
+    let here = whole-at amount xs c.args.all i _ c.requires.1.0 c.exact_share-whole.ensures.whole in
     omega (arith, here, charges-at amount xs i (omega arith), charge-is amount xs i, ap one_if (lt-ltb (ahead amount xs i) (leftover amount xs) (omega (arith, c.requires.1.1))))
 
-pub returns-else-ahead-of-left : goal.returns-else-ahead-of-left
-returns-else-ahead-of-left c =
+pub returns-else-ahead_of-left : goal.returns-else-ahead_of-left
+returns-else-ahead_of-left c =
     let amount = c.args.amount in
     let xs = c.args.activities.now in
     let i = c.args.i in
-    let here = whole-at amount xs c.args.all i _ c.requires.1.0 c.exact-share-whole.ensures.whole in
+    let here = whole-at amount xs c.args.all i _ c.requires.1.0 c.exact_share-whole.ensures.whole in
     omega (arith, here, charges-at amount xs i (omega arith), charge-is amount xs i, ap one_if (le-ltb (ahead amount xs i) (leftover amount xs) (omega (arith, c.requires.1.1))))

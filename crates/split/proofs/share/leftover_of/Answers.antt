@@ -6,22 +6,22 @@ use Rattle.split.proofs.Shares.{front-le}
 use Rattle.split.proofs.Summed.{activity-fits, whole-at}
 use Rattle.split.proofs.share.leftover_of.Goals as goal
 
-pub exact-share-whole-requires : goal.exact-share-whole-requires
-exact-share-whole-requires c =
+pub exact_share-whole-requires : goal.exact_share-whole-requires
+exact_share-whole-requires c =
     (omega arith, (activity-fits c.args.amount c.args.activities.now c.loop-a.a-index c.requires.0 (omega arith), omega arith))
 
-pub overflow-sub-left : goal.overflow-sub-left
-overflow-sub-left c =
+pub overflow_sub-left : goal.overflow_sub-left
+overflow_sub-left c =
     let xs = c.args.activities.now in
     let f = whole_part c.args.amount xs in
-    let here = whole-at c.args.amount xs c.args.all c.loop-a.a-index _ c.requires.1 c.exact-share-whole.ensures.whole in
+    let here = whole-at c.args.amount xs c.args.all c.loop-a.a-index _ c.requires.1 c.exact_share-whole.ensures.whole in
     omega (arith, here, total-more f c.loop-a.a-index, front-le c.args.amount xs c.requires.0.sum_some (c.loop-a.a-index + 1) (omega arith))
 
 pub loop-a-preserved : goal.loop-a-preserved
 loop-a-preserved c =
     let xs = c.args.activities.now in
     let f = whole_part c.args.amount xs in
-    let here = whole-at c.args.amount xs c.args.all c.loop-a.a-index _ c.requires.1 c.exact-share-whole.ensures.whole in
+    let here = whole-at c.args.amount xs c.args.all c.loop-a.a-index _ c.requires.1 c.exact_share-whole.ensures.whole in
     omega (arith, here, total-more f c.loop-a.a-index, front-le c.args.amount xs c.requires.0.sum_some (c.loop-a.a-index + 1) (omega arith))
 
 pub returns : goal.returns
