@@ -1,5 +1,5 @@
 -- The sums over participants and the largest group value, one at a time. Assumes nothing.
-use Rattle.std.proofs.Common.{◌≡◌, ℕ, ◌+◌, ◌-◌, ◌*◌, ◌≤◌, Bool, true, false, cond, List, map, get_or, ℤ, pos, ◌+ℤ◌, nat_abs, ◌≤ℤ◌, fold, sym, refl, ap, ◌∙◌, add-one, arith}
+use Rattle.std.proofs.Common.{◌≡◌, ℕ, ◌+◌, ◌-◌, ◌*◌, ◌≤◌, true, false, List, map, get_or, ℤ, pos, ◌+ℤ◌, nat_abs, ◌≤ℤ◌, fold, sym, ap, ◌∙◌, add-one, arith}
 use Rattle.std.specs.List.{range_with_len}
 use Rattle.std.specs.Int.{int_max}
 use Rattle.std.proofs.lemmas.List.FromFn.{map-range_with_len_more}

@@ -1,5 +1,5 @@
 -- What a record adds to a row. Assumes nothing.
-use Rattle.std.proofs.Common.{◌≡◌, ℕ, zero, suc, ◌-◌, Bool, true, false, cond, ◌||◌, List, [], ◌∷◌, map, length, get_or, set, ℤ, pos, negsuc, ◌+ℤ◌, nat_abs, Ok, Err, sym, refl, ap, ◌∙◌, subst, arith}
+use Rattle.std.proofs.Common.{◌≡◌, ℕ, zero, suc, ◌-◌, Bool, true, false, cond, ◌||◌, List, [], ◌∷◌, map, length, get_or, set, ℤ, pos, negsuc, ◌+ℤ◌, Ok, Err, sym, refl, ap, ◌∙◌}
 use lib.Signed.{non_neg}
 use Rattle.std.proofs.lemmas.Bool.{cond-true, cond-false}
 use Rattle.records.specs.declared.determinant.Determinant.{Determinant}
@@ -11,8 +11,8 @@ use Rattle.activity.specs.declared.row.place.Place.TheVariants.{Energy, Interval
 use Rattle.records.specs.Determinants.{facts}
 use Rattle.records.specs.Ruled.{sign_allowed}
 use Rattle.activity.specs.Rows.{place, Kept, kept_at, in_order}
-use Rattle.activity.specs.Signs.{Signs, energy_signed}
-use Rattle.activity.specs.Sums.{Sums, sum_of, added, add_answer}
+use Rattle.activity.specs.Signs.{energy_signed}
+use Rattle.activity.specs.Sums.{sum_of, added, add_answer}
 use Rattle.activity.specs.Units.{within, sum_answer}
 use Rattle.activity.proofs.Order.{put, order-sum, order-put}
 

@@ -1,5 +1,5 @@
 -- What a row counts. Assumes nothing.
-use Rattle.std.proofs.Common.{◌≡◌, ℕ, ◌+◌, ◌≤◌, true, false, eqb, ℤ, pos, negsuc, ◌+ℤ◌, ◌*ℤ◌, neg_ℤ, nat_abs, ◌≤ℤ◌, sym, refl, ap, ◌∙◌, arith}
+use Rattle.std.proofs.Common.{◌≡◌, ℕ, ◌+◌, ◌≤◌, true, false, eqb, ℤ, pos, negsuc, ◌+ℤ◌, ◌*ℤ◌, nat_abs, ◌≤ℤ◌, sym, refl, ap, ◌∙◌, arith}
 use lib.Signed.{non_neg}
 use Rattle.std.specs.Int.{int_max}
 use Rattle.std.proofs.lemmas.Int.{ints, clamps}
@@ -11,10 +11,10 @@ use Rattle.activity.specs.declared.row.place.Place.{Place}
 use Rattle.activity.specs.declared.row.place.Place.TheVariants.{Energy, Interval}
 use Rattle.activity.specs.Activity.{counted, row_value}
 use Rattle.activity.specs.Counts.{Counts}
-use Rattle.records.specs.Determinants.{facts, Entry, plain, clipped, reversed, entered, quarters}
+use Rattle.records.specs.Determinants.{facts, Entry, plain, entered, quarters}
 use Rattle.activity.specs.Rows.{place, Kept, kept_at, in_order}
 use Rattle.activity.specs.Signs.{energy_signed}
-use Rattle.activity.specs.Sums.{Sums, sum_of}
+use Rattle.activity.specs.Sums.{Sums}
 use Rattle.activity.proofs.Order.{order-sum}
 use Rattle.activity.proofs.Adds.{signed_at}
 

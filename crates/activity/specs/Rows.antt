@@ -1,5 +1,5 @@
 -- Which sums a row's struct holds. Assumes nothing.
-use Rattle.std.specs.Prelude.{ℕ, ◌<◌, List, map, ℤ, pos, slice_index_or}
+use Rattle.std.specs.Prelude.{◌<◌, List, map, ℤ, pos, slice_index_or}
 use Rattle.records.specs.declared.determinant.Determinant.{Determinant}
 use Rattle.records.specs.declared.determinant.Determinant.TheVariants.{Rtmg, Rtdcimp, Rtamlexsecm, Mebl, Rtqqes, Rtqqep, Daes, Daep, Rtobl, Rtobllo, Opt, Daobl, Opts, Obls, Optp, Oblp}
 use Rattle.activity.specs.declared.row.Row.{Row}

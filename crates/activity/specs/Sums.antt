@@ -1,5 +1,5 @@
 -- The sixteen sums of a participant. Assumes nothing.
-use Rattle.std.specs.Prelude.{ℕ, ◌-◌, List, [], ◌∷◌, replicate, ℤ, pos, ◌+ℤ◌, Result, slice_index_or, slice_set}
+use Rattle.std.specs.Prelude.{◌-◌, List, [], ◌∷◌, replicate, ℤ, pos, ◌+ℤ◌, Result, slice_index_or, slice_set}
 use Rattle.foundation.specs.Questions.{asks, verdict}
 use Rattle.records.specs.declared.determinant.Determinant.{Determinant}
 use Rattle.records.specs.declared.fault.Fault.{Fault}

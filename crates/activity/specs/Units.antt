@@ -1,5 +1,5 @@
 -- What the three units hold, and when a sum may be raised. Assumes nothing.
-use Rattle.std.specs.Prelude.{Bool, List, [], ◌∷◌, ℤ, ◌+ℤ◌, Result, nat_le, unsigned_abs}
+use Rattle.std.specs.Prelude.{Bool, [], ◌∷◌, ℤ, ◌+ℤ◌, Result, nat_le, unsigned_abs}
 use Rattle.foundation.specs.Limits.{most_sum}
 use Rattle.foundation.specs.Questions.{asks, verdict}
 use Rattle.records.specs.declared.fault.Fault.{Fault}

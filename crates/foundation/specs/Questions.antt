@@ -1,5 +1,5 @@
 -- A call goes through its questions in order; the first no gives its refusal. Assumes nothing.
-use Rattle.std.specs.Prelude.{Bool, true, false, cond, List, [], ◌∷◌, Ok, Err, Result}
+use Rattle.std.specs.Prelude.{Bool, cond, List, [], ◌∷◌, Ok, Err, Result}
 
 pub record Question (F : Type 0) : Type 0 where
   pub holds : Bool

@@ -19,7 +19,7 @@ impl<C: Calendar> Call<'_, C> {
         ledger: &mut Ledger,
         row: &mut [I],
     ) -> Result<Answer, Fault>
-        ensures { Step (state_of held room ledger.old row.old) (request_of C.Calendar.meaning self.now) result (state_of held room ledger.new row.new) }
+        ensures { Step (state_of I.held I.room ledger.old row.old) (request_of C.Calendar.meaning self.now) result (state_of I.held I.room ledger.new row.new) }
     {
         match self {
             Call::Register { counter_party } => replies::done(ledger.register(*counter_party)),
@@ -58,8 +58,8 @@ impl<C: Calendar> Call<'_, C> {
         ledger: &mut Ledger,
         row: &mut [I],
     ) -> Result<Answer, Fault>
-        ensures step { Step (state_of held room ledger.old row.old) (request_of C.Calendar.meaning self.now) result (state_of held room ledger.new row.new) }
-        ensures history { (account : ℕ) (requests : List Request) (replies : List Reply) (start : List Security) → History account requests replies start (state_of held room ledger.old row.old) → History account (requests ++ request_of C.Calendar.meaning self.now ∷ []) (replies ++ result ∷ []) start (state_of held room ledger.new row.new) }
+        ensures step { Step (state_of I.held I.room ledger.old row.old) (request_of C.Calendar.meaning self.now) result (state_of I.held I.room ledger.new row.new) }
+        ensures history { (account : ℕ) (requests : List Request) (replies : List Reply) (start : List Security) → History account requests replies start (state_of I.held I.room ledger.old row.old) → History account (requests ++ request_of C.Calendar.meaning self.now ∷ []) (replies ++ result ∷ []) start (state_of I.held I.room ledger.new row.new) }
     {
         self.step(ledger, row)
     }
@@ -79,7 +79,7 @@ pub fn carry_out<I: Instrument + Copy, C: Calendar>(
     row: &mut [I],
     calls: &[Call<'_, C>],
 ) -> Result<Carried, AllocError>
-    ensures history { IfOk result (λ c. History account (map (request_of C.Calendar.meaning) calls.now) c.replies.items (row_of held room row.old) (state_of held room c.ledger row.new)) }
+    ensures history { IfOk result (λ c. History account (map (request_of C.Calendar.meaning) calls.now) c.replies.items (row_of I.held I.room row.old) (state_of I.held I.room c.ledger row.new)) }
     ensures refused { is_err result ≡ true → row.new ≡ row.old }
 {
     let mut ledger = Ledger::new(heap, account)?;

@@ -1,5 +1,5 @@
 -- How far a past-due run has come, in a loop: what is left of the list, from the amounts now held, gives what the whole gives. Assumes nothing.
-use Rattle.std.proofs.Common.{◌≡◌, ℕ, ◌+◌, ◌-◌, ◌*◌, ◌<◌, ◌≤◌, min, Bool, true, false, cond, ltb, List, [], ◌∷◌, ◌++◌, length, get_or, take, drop, set, sym, refl, ap, ◌∙◌, subst, append_assoc, add-zero, add_assoc, mul-le-mul_left, zero-add, arith}
+use Rattle.std.proofs.Common.{◌≡◌, ℕ, ◌+◌, ◌*◌, ◌<◌, ◌≤◌, Bool, true, false, cond, List, [], ◌∷◌, ◌++◌, length, get_or, take, drop, set, sym, refl, ap, ◌∙◌, subst, append_assoc, add-zero, add_assoc, mul-le-mul_left, zero-add, arith}
 use Rattle.std.proofs.lemmas.List.{take_more_set, drop_more, drop-set-lt, length-set, set-get_or, take_all, drop_all, append-nil, get_or_default}
 use Rattle.std.proofs.ByRecursion.{All-drop}
 use Rattle.receivables.specs.declared.invoice.State.{State}

@@ -1,5 +1,5 @@
 -- A payment on the invoice with a number. Assumes nothing.
-use Rattle.std.specs.Prelude.{ℕ, ◌-◌, Bool, true, false, cond, ◌&&◌, ◌||◌, List, [], ◌∷◌, map, Some, None, filter, Option, Result, ◌==◌, nat_le}
+use Rattle.std.specs.Prelude.{ℕ, ◌-◌, Bool, false, cond, ◌&&◌, ◌||◌, List, [], ◌∷◌, map, Some, None, filter, Option, Result, ◌==◌, nat_le}
 use Rattle.foundation.specs.Questions.{Question, asks, verdict}
 use Rattle.receivables.specs.declared.fault.Fault.{Fault}
 use Rattle.receivables.specs.declared.fault.Fault.TheVariants as fault

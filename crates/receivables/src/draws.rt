@@ -20,10 +20,10 @@ pub struct Outcome {
 
 // Draws n from the instrument at a place of the row, and answers what that paid: nothing where the row has no such place.
 fn draw_at<I: Instrument + Copy>(row: &mut [I], place: usize, n: u64) -> u64
-    ensures paid { result ≡ min n (slice_index (map held row.old) place) }
-    ensures helds { map held row.new ≡ slice_set (map held row.old) place (slice_index (map held row.old) place - n) }
+    ensures paid { result ≡ min n (slice_index (map I.held row.old) place) }
+    ensures helds { map I.held row.new ≡ slice_set (map I.held row.old) place (slice_index (map I.held row.old) place - n) }
     ensures others { (j : ℕ) (d : I) → (j ≢ place) → slice_index_or row.new j d ≡ slice_index_or row.old j d }
-    ensures rooms { (j : ℕ) (d : I) (m : Means) → room (slice_index_or row.old j d) m ≤ room (slice_index_or row.new j d) m }
+    ensures rooms { (j : ℕ) (d : I) (m : Means) → I.room (slice_index_or row.old j d) m ≤ I.room (slice_index_or row.new j d) m }
 {
     if place >= row.len() {
         return 0;
@@ -36,11 +36,11 @@ fn draw_at<I: Instrument + Copy>(row: &mut [I], place: usize, n: u64) -> u64
 
 // Draws the invoice's balance from the instrument at its position, and answers what that paid.
 fn collect<I: Instrument + Copy>(invoice: &mut Invoice, row: &mut [I]) -> u64
-    ensures paid { result ≡ paid (map held row.old) invoice.old }
-    ensures invoice { invoice.new ≡ drawn_on (map held row.old) invoice.old }
-    ensures helds { map held row.new ≡ held_after (map held row.old) invoice.old }
+    ensures paid { result ≡ paid (map I.held row.old) invoice.old }
+    ensures invoice { invoice.new ≡ drawn_on (map I.held row.old) invoice.old }
+    ensures helds { map I.held row.new ≡ held_after (map I.held row.old) invoice.old }
     ensures others { (j : ℕ) (d : I) → (j ≢ invoice.old.position) → slice_index_or row.new j d ≡ slice_index_or row.old j d }
-    ensures rooms { (j : ℕ) (d : I) (m : Means) → room (slice_index_or row.old j d) m ≤ room (slice_index_or row.new j d) m }
+    ensures rooms { (j : ℕ) (d : I) (m : Means) → I.room (slice_index_or row.old j d) m ≤ I.room (slice_index_or row.new j d) m }
 {
     let paid = draw_at(row, invoice.position, invoice.balance);
     invoice.tell(Event::Draw(paid));
@@ -56,11 +56,11 @@ pub(crate) fn draw_all<I: Instrument + Copy>(
 ) -> Outcome
     requires few { length list.old ≤ 4294967295 }
     requires small { All (λ v. v.balance ≤ 4294967295) list.old }
-    ensures outcome { result ≡ outcome (is_past_due (when at)) list.old (map held row.old) }
-    ensures list { list.new ≡ drawn_all (is_past_due (when at)) list.old (map held row.old) }
-    ensures helds { map held row.new ≡ helds (is_past_due (when at)) list.old (map held row.old) }
+    ensures outcome { result ≡ outcome (is_past_due (when at)) list.old (map I.held row.old) }
+    ensures list { list.new ≡ drawn_all (is_past_due (when at)) list.old (map I.held row.old) }
+    ensures helds { map I.held row.new ≡ helds (is_past_due (when at)) list.old (map I.held row.old) }
     ensures others { (j : ℕ) (d : I) → Untouched (is_past_due (when at)) j list.old → slice_index_or row.new j d ≡ slice_index_or row.old j d }
-    ensures rooms { (j : ℕ) (d : I) (m : Means) → room (slice_index_or row.old j d) m ≤ room (slice_index_or row.new j d) m }
+    ensures rooms { (j : ℕ) (d : I) (m : Means) → I.room (slice_index_or row.old j d) m ≤ I.room (slice_index_or row.new j d) m }
 {
     let mut drawn = 0;
     let mut owed = 0;

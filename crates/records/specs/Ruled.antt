@@ -4,7 +4,6 @@ use Rattle.std.specs.Int.Signed.{non_neg}
 use Rattle.foundation.specs.Questions.{Question, asks, verdict}
 use Rattle.records.specs.declared.fault.Fault.{Fault}
 use Rattle.records.specs.declared.fault.Fault.TheVariants as fault
-use Rattle.records.specs.declared.ruling.Mark.{Mark}
 use Rattle.records.specs.declared.ruling.Mark.TheVariants.{RmrResource, RucInterval}
 use Rattle.records.specs.declared.ruling.Ruling.{Ruling}
 use Rattle.records.specs.declared.ruling.Ruling.TheVariants.{Counted, Excluded}

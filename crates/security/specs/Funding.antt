@@ -1,5 +1,5 @@
 -- How a funding is answered, and what is held after it. Assumes nothing.
-use Rattle.std.specs.Prelude.{ℕ, ◌+◌, Bool, true, false, cond, List, [], ◌∷◌, Some, None, Option, Result, ◌==◌, nat_le}
+use Rattle.std.specs.Prelude.{ℕ, ◌+◌, cond, [], ◌∷◌, Some, None, Option, Result, ◌==◌, nat_le}
 use Rattle.foundation.specs.Questions.{asks, verdict}
 use Rattle.security.specs.declared.means.Means.{Means}
 use Rattle.security.specs.declared.means.Means.TheVariants.{Cash, Letter}

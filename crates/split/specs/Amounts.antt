@@ -1,5 +1,5 @@
 -- A month's amount. Assumes nothing.
-use Rattle.std.specs.Prelude.{ℕ, Bool, ◌&&◌, List, [], ◌∷◌, Result, nat_le}
+use Rattle.std.specs.Prelude.{ℕ, Bool, ◌&&◌, [], ◌∷◌, Result, nat_le}
 use Rattle.foundation.specs.Limits.{most_amount}
 use Rattle.foundation.specs.Questions.{asks, verdict}
 use Rattle.split.specs.declared.amount.Amount.{Amount}

@@ -25,10 +25,10 @@ fn fund_at<I: Instrument + Copy>(
     amount: u64,
 ) -> Result<u64, FundingRefused>
     requires within { place < length row.old }
-    ensures answer { result ≡ place_funded (slice_index_or (row_of held room row.old) place no_security) means amount }
-    ensures helds { map held row.new ≡ after result (slice_set (map held row.old) place (slice_index (map held row.old) place + amount)) (map held row.old) }
+    ensures answer { result ≡ place_funded (slice_index_or (row_of I.held I.room row.old) place no_security) means amount }
+    ensures helds { map I.held row.new ≡ after result (slice_set (map I.held row.old) place (slice_index (map I.held row.old) place + amount)) (map I.held row.old) }
     ensures others { (j : ℕ) (d : I) → (j ≢ place) → slice_index_or row.new j d ≡ slice_index_or row.old j d }
-    ensures rooms { (j : ℕ) (d : I) (m : Means) → room (slice_index_or row.new j d) m ≤ room (slice_index_or row.old j d) m }
+    ensures rooms { (j : ℕ) (d : I) (m : Means) → I.room (slice_index_or row.new j d) m ≤ I.room (slice_index_or row.old j d) m }
     ensures refused { is_err result ≡ true → row.new ≡ row.old }
 {
     let mut instrument = row[place];
@@ -60,10 +60,10 @@ impl Ledger {
         means: u8,
         amount: u64,
     ) -> Result<u64, Fault>
-        ensures answer { result ≡ fund_answer (model_of self.now) (row_of held room row.old) counter_party means amount }
-        ensures helds { map held row.new ≡ after result (funded (model_of self.now) (map held row.old) counter_party amount) (map held row.old) }
+        ensures answer { result ≡ fund_answer (model_of self.now) (row_of I.held I.room row.old) counter_party means amount }
+        ensures helds { map I.held row.new ≡ after result (funded (model_of self.now) (map I.held row.old) counter_party amount) (map I.held row.old) }
         ensures others { (j : ℕ) (d : I) → (j ≢ party_at (model_of self.now) counter_party) → slice_index_or row.new j d ≡ slice_index_or row.old j d }
-        ensures rooms { (j : ℕ) (d : I) (m : Means) → room (slice_index_or row.new j d) m ≤ room (slice_index_or row.old j d) m }
+        ensures rooms { (j : ℕ) (d : I) (m : Means) → I.room (slice_index_or row.new j d) m ≤ I.room (slice_index_or row.old j d) m }
         ensures refused { is_err result ≡ true → row.new ≡ row.old }
     {
         let place = self.place_in(row.len(), counter_party)?;
@@ -79,7 +79,7 @@ impl Ledger {
 
     // What a Counter-Party owes, its exposure, what it holds, and what the exposure is above that.
     pub fn report<I: Instrument>(&self, row: &[I], counter_party: u16) -> Result<Report, Fault>
-        ensures { result ≡ report_answer (model_of self.now) (map held row.now) counter_party }
+        ensures { result ≡ report_answer (model_of self.now) (map I.held row.now) counter_party }
     {
         let place = self.place_in(row.len(), counter_party)?;
         let exposure = 2 * self.charges[place];
@@ -99,13 +99,13 @@ impl Ledger {
         minute: u16,
         row: &mut [I],
     ) -> Result<Outcome, Fault>
-        ensures answer { result ≡ run_answer (model_of self.old) (map held row.old) day minute }
-        ensures model { model_of self.new ≡ after result (ran (model_of self.old) (map held row.old) day minute) (model_of self.old) }
-        ensures helds { map held row.new ≡ after result (helds (is_past_due (at day minute)) (model_of self.old).book.invoices (map held row.old)) (map held row.old) }
+        ensures answer { result ≡ run_answer (model_of self.old) (map I.held row.old) day minute }
+        ensures model { model_of self.new ≡ after result (ran (model_of self.old) (map I.held row.old) day minute) (model_of self.old) }
+        ensures helds { map I.held row.new ≡ after result (helds (is_past_due (at day minute)) (model_of self.old).book.invoices (map I.held row.old)) (map I.held row.old) }
         ensures others { (j : ℕ) (d : I) → Untouched (is_past_due (at day minute)) j (model_of self.old).book.invoices → slice_index_or row.new j d ≡ slice_index_or row.old j d }
-        ensures rooms { (j : ℕ) (d : I) (m : Means) → room (slice_index_or row.old j d) m ≤ room (slice_index_or row.new j d) m }
+        ensures rooms { (j : ℕ) (d : I) (m : Means) → I.room (slice_index_or row.old j d) m ≤ I.room (slice_index_or row.new j d) m }
         ensures refused { is_err result ≡ true → row.new ≡ row.old }
-        ensures law { IfOk result (λ o. RunLaw (is_past_due (at day minute)) (model_of self.old).book.invoices (map held row.old) (model_of self.new).book.invoices (map held row.new) o) }
+        ensures law { IfOk result (λ o. RunLaw (is_past_due (at day minute)) (model_of self.old).book.invoices (map I.held row.old) (model_of self.new).book.invoices (map I.held row.new) o) }
     {
         let at = self.moment(day, minute)?;
         if row.len() < self.registry.counter_parties().len() {

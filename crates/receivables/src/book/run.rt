@@ -16,12 +16,12 @@ use security::Instrument;
 impl<const PLACES: usize> Receivables<PLACES> {
     // Draws for each past-due invoice by rising number on the instrument at its position of the row.
     pub fn past_due<I: Instrument + Copy>(&mut self, at: Moment, row: &mut [I]) -> Outcome
-        ensures outcome { result ≡ outcome (is_past_due (when at)) (book_of self.old).invoices (map held row.old) }
-        ensures book { book_of self.new ≡ after_run (is_past_due (when at)) (book_of self.old) (map held row.old) }
-        ensures helds { map held row.new ≡ helds (is_past_due (when at)) (book_of self.old).invoices (map held row.old) }
+        ensures outcome { result ≡ outcome (is_past_due (when at)) (book_of self.old).invoices (map I.held row.old) }
+        ensures book { book_of self.new ≡ after_run (is_past_due (when at)) (book_of self.old) (map I.held row.old) }
+        ensures helds { map I.held row.new ≡ helds (is_past_due (when at)) (book_of self.old).invoices (map I.held row.old) }
         ensures others { (j : ℕ) (d : I) → Untouched (is_past_due (when at)) j (book_of self.old).invoices → slice_index_or row.new j d ≡ slice_index_or row.old j d }
-        ensures rooms { (j : ℕ) (d : I) (m : Means) → room (slice_index_or row.old j d) m ≤ room (slice_index_or row.new j d) m }
-        ensures law { RunLaw (is_past_due (when at)) (book_of self.old).invoices (map held row.old) (book_of self.new).invoices (map held row.new) result }
+        ensures rooms { (j : ℕ) (d : I) (m : Means) → I.room (slice_index_or row.old j d) m ≤ I.room (slice_index_or row.new j d) m }
+        ensures law { RunLaw (is_past_due (when at)) (book_of self.old).invoices (map I.held row.old) (book_of self.new).invoices (map I.held row.new) result }
     {
         let outcome = draw_all(self.list.as_mut_slice(), at, row);
         sweep(&mut self.list);

@@ -1,4 +1,4 @@
-use Rattle.std.proofs.Common.{◌≡◌, ℕ, ◌+◌, ◌<◌, ◌≤◌, true, false, sym, ◌∙◌, subst, arith}
+use Rattle.std.proofs.Common.{◌≡◌, ℕ, ◌+◌, true, sym, ◌∙◌, subst, arith}
 use Rattle.calendar.specs.Due.{span}
 use Rattle.calendar.proofs.Dues.{SoFar, hit, no-bank, early, no-business, at_most, none-due, law-of}
 use Rattle.calendar.proofs.due.due_day.Goals as goal

@@ -1,9 +1,9 @@
-use Rattle.std.proofs.Common.{◌≡◌, ◌+◌, length, sym, ap, ◌∙◌, arith}
+use Rattle.std.proofs.Common.{◌+◌, sym, ap, arith}
 use Rattle.std.proofs.lemmas.List.{get_or_past}
 use Rattle.std.proofs.lemmas.Bool.{lt-ltb, le-ltb}
 use Rattle.foundation.specs.Counting.{one_if}
 use Rattle.foundation.proofs.Totals.{total-more}
-use Rattle.split.specs.Split.{whole_part, ahead, leftover, charge, charges}
+use Rattle.split.specs.Split.{whole_part, ahead, leftover, charges}
 use Rattle.split.proofs.Shares.{front-le}
 use Rattle.split.proofs.Fairness.{charges-at, charges-long, charge-is}
 use Rattle.split.proofs.Summed.{activity-fits, whole-at}

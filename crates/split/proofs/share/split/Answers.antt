@@ -1,6 +1,5 @@
-use Rattle.std.proofs.Common.{◌≡◌, ℕ, length, get_or, sym, ap, ◌∙◌, subst, arith}
+use Rattle.std.proofs.Common.{ℕ, length, get_or, sym, ap, ◌∙◌, subst, arith}
 use Rattle.std.proofs.lemmas.List.FromFn.{fill_by_all}
-use Rattle.split.specs.Amounts.{cents_of}
 use Rattle.split.specs.Split.{Shareable, charges, laid_out}
 use Rattle.split.proofs.Fairness.{fair}
 use Rattle.split.proofs.Summed.{accepted}

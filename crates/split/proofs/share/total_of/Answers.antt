@@ -1,4 +1,4 @@
-use Rattle.std.proofs.Common.{◌≡◌, ◌<◌, ◌≤◌, sum, arith}
+use Rattle.std.proofs.Common.{◌≡◌, ◌<◌, sum, arith}
 use Rattle.std.proofs.lemmas.Bool.Decides.{nat_tests}
 use Rattle.split.proofs.Summed.{sum_more, sum-end}
 use Rattle.split.proofs.share.total_of.Goals as goal

@@ -1,4 +1,4 @@
-use Rattle.std.proofs.Common.{◌≡◌, ◌<◌, length, pos, sym, refl, ap, ◌∙◌, arith}
+use Rattle.std.proofs.Common.{◌<◌, length, pos, sym, ap, ◌∙◌, arith}
 use lib.Signed.{non_neg}
 use Rattle.std.proofs.lemmas.List.{get_or-map}
 use Rattle.activity.proofs.row.Row.energy_at.Goals as goal

@@ -13,13 +13,13 @@ not-load : Generation ≡ Load → ⊥
 not-load e = omega (arith, ap group_number e)
 
 pub loop-number-init : goal.loop-number-init
-loop-number-init c = (c.group-value-top.ensures.is, c.group-value-top.ensures.natural not-load)
+loop-number-init c = (c.group_value-top.ensures.is, c.group_value-top.ensures.natural not-load)
 
 pub loop-number-preserved : goal.loop-number-preserved
 loop-number-preserved c =
     let v : ℕ → ℤ = λ n. group_value (meaning c.args.self.now).rows c.args.parties.now c.args.party (group_numbered n) in
     let low : 2 ≤ c.loop-number.number = omega arith in
-    let here = c.group-value.ensures.is ∙ ap (group_value (meaning c.args.self.now).rows c.args.parties.now c.args.party) c.group-numbered.ensures in (
+    let here = c.group_value.ensures.is ∙ ap (group_value (meaning c.args.self.now).rows c.args.parties.now c.args.party) c.group_numbered.ensures in (
       top-more v c.loop-number.number _ _ _ low c.loop-number.invariant.0 here c.larger-top.ensures,
       top-natural _ _ _ c.larger-top.ensures c.loop-number.invariant.1,
     )

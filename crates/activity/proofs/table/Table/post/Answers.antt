@@ -1,4 +1,4 @@
-use Rattle.std.proofs.Common.{◌≡◌, ◌<◌, List, map, length, Some, Ok, sym, refl, ap, ◌∙◌, arith, w32, SFits}
+use Rattle.std.proofs.Common.{◌≡◌, ◌<◌, List, length, Some, Ok, sym, refl, ap, ◌∙◌, arith, w32, SFits}
 use Rattle.std.specs.Option.{option_map}
 use Rattle.std.proofs.lemmas.List.{map-set}
 use Rattle.std.proofs.lemmas.Result.{err_from_is_err_and}
@@ -12,8 +12,8 @@ use Rattle.activity.specs.Tables.{meaning}
 use Rattle.activity.proofs.Posts.{row_read, refused_post, taken-post, counted-table}
 use Rattle.activity.proofs.table.Table.post.Goals as goal
 
-pub returns-in-err-add : goal.returns-in-err-add
-returns-in-err-add c =
+pub returns-in_err-add : goal.returns-in_err-add
+returns-in_err-add c =
     let t = meaning c.args.self.now in
     let k = c.index-k.result in
     let q = c.args.quantity in
@@ -21,16 +21,16 @@ returns-in-err-add c =
     let fits : SFits w32 q = c.ranges.quantity in
     let lt : k < length c.args.self.now.rows = omega (arith, c.args.self.now.full, c.index-k.ensures, c.in-Some.position.within) in
     let at = ap (option_map index_of) c.in-Some.is ∙ ap Some (sym c.index-k.ensures) in
-    let counts : Ok (Counted d) ≡ ruled c.args.determinant c.args.mark q = ap Ok (sym c.in-Counted.is) ∙ simp to_z-of_z at c.in-ok-ruling.ensures.value in
-    let e = simp to_z-of_z at c.in-err-add.ensures in
-    let p = err_from_is_err_and c.from-residual-in-err-add.result c.from-residual-in-err-add.ensures.1 in
+    let counts : Ok (Counted d) ≡ ruled c.args.determinant c.args.mark q = ap Ok (sym c.in-Counted.is) ∙ simp to_z-of_z at c.in_ok-ruling.ensures.value in
+    let e = simp to_z-of_z at c.in_err-add.ensures in
+    let p = err_from_is_err_and c.from_residual-in_err-add.result c.from_residual-in_err-add.ensures.1 in
     rw (p.1, p.2) (record {
       answer = refused_post t c.args.state.now.month k c.args.determinant c.args.mark q d (option_map index_of c.args.participant) at counts (sym c.if-not-carries.ensures) _ (e.answer ∙ ap (λ s. add_answer s d q) (row_read _ k _ lt));
       table = refl;
     })
 
-pub returns-in-ok-add : goal.returns-in-ok-add
-returns-in-ok-add c =
+pub returns-in_ok-add : goal.returns-in_ok-add
+returns-in_ok-add c =
     let t = meaning c.args.self.now in
     let k = c.index-k.result in
     let q = c.args.quantity in
@@ -38,8 +38,8 @@ returns-in-ok-add c =
     let fits : SFits w32 q = c.ranges.quantity in
     let lt : k < length c.args.self.now.rows = omega (arith, c.args.self.now.full, c.index-k.ensures, c.in-Some.position.within) in
     let at = ap (option_map index_of) c.in-Some.is ∙ ap Some (sym c.index-k.ensures) in
-    let counts : Ok (Counted d) ≡ ruled c.args.determinant c.args.mark q = ap Ok (sym c.in-Counted.is) ∙ simp to_z-of_z at c.in-ok-ruling.ensures.value in
-    let e = simp to_z-of_z at c.in-ok-add.ensures in
+    let counts : Ok (Counted d) ≡ ruled c.args.determinant c.args.mark q = ap Ok (sym c.in-Counted.is) ∙ simp to_z-of_z at c.in_ok-ruling.ensures.value in
+    let e = simp to_z-of_z at c.in_ok-add.ensures in
     record {
       answer = taken-post t c.args.state.now.month k c.args.determinant c.args.mark q d (option_map index_of c.args.participant) at counts (sym c.if-not-carries.ensures) (e.answer ∙ ap (λ s. add_answer s d q) (row_read _ k _ lt));
       table = ap (λ (x : List Sums). record { month = t.month; rows = x }) (map-set sums_of c.args.self.now.rows k _)

@@ -3,4 +3,4 @@ use Rattle.receivables.specs.Invoices.{owed_by}
 use Rattle.receivables.proofs.book.calls.owed_in.Given as goal
 
 abbrev pub invariant-loop-invoice : goal.invariant-loop-invoice
-invariant-loop-invoice l = l.owed ≡ owed_by (take l.invoice-index l.list) l.counter-party
+invariant-loop-invoice l = l.owed ≡ owed_by (take l.invoice-index l.list) l.counter_party

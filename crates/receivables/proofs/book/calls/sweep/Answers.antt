@@ -1,19 +1,19 @@
-use Rattle.std.proofs.Common.{◌≡◌, ◌+◌, ◌<◌, ◌≤◌, true, false, not, length, vec_items, vec_len, vec_capacity, sym, refl, ap, ◌∙◌, subst, arith}
-use Rattle.std.proofs.lemmas.List.Filters.{FiltersInPlace, FiltersInPlace-all, FiltersInPlace-more_no, FiltersInPlace-more_set}
+use Rattle.std.proofs.Common.{◌≡◌, ◌<◌, ◌≤◌, true, false, not, length, vec_items, sym, ap, ◌∙◌, arith}
+use Rattle.std.proofs.lemmas.List.Filters.{FiltersInPlace-all, FiltersInPlace-more_no, FiltersInPlace-more_set}
 use Rattle.receivables.specs.Invoices.{unsettled}
 use Rattle.receivables.proofs.book.calls.sweep.Goals as goal
-use Rattle.receivables.proofs.book.calls.sweep.Goals.{then-not-is-settled, else-not-is-settled}
+use Rattle.receivables.proofs.book.calls.sweep.Goals.{then-not-is_settled, else-not-is_settled}
 
 pub loop-i-preserved : goal.loop-i-preserved
 loop-i-preserved c =
     let s = c.loop-i.invariant.0 in
     let l : c.loop-i.i < length (vec_items c.loop-i.list) = omega (arith, c.args.list.now.ok.0, s.long) in
-    elim c.if-not-is-settled.branch [
-      | then-not-is-settled w ↦
-          let t : unsettled c.index.result.now ≡ true = ap not (sym c.is-settled.ensures ∙ w.if-not-is-settled.true) in
+    elim c.if-not-is_settled.branch [
+      | then-not-is_settled w ↦
+          let t : unsettled c.index.result.now ≡ true = ap not (sym c.is_settled.ensures ∙ w.if-not-is_settled.true) in
           simp (w.list-is, w.kept-is) (FiltersInPlace-more_set s l t c.index.ensures, c.loop-i.invariant.1)
-      | else-not-is-settled w ↦
-          let t : unsettled c.index.result.now ≡ false = ap not (sym c.is-settled.ensures ∙ w.if-not-is-settled.false) in
+      | else-not-is_settled w ↦
+          let t : unsettled c.index.result.now ≡ false = ap not (sym c.is_settled.ensures ∙ w.if-not-is_settled.false) in
           simp (w.list-is, w.kept-is) (FiltersInPlace-more_no s l t c.index.ensures, c.loop-i.invariant.1)
     ]
 
