@@ -8,10 +8,10 @@ pub returns : goal.returns
 returns c =
     let s = model_of c.args.self.now in
     let month = c.args.month.now.month in
-    let fits : month ≤ 959 = omega (arith, c.month.ensures, c.if-month-gt-LAST-MONTH.false) in
-    let later : is_later s.month month ≡ true = ap (is_later s.month) (sym c.month-else-month-gt-LAST-MONTH.ensures) ∙ sym c.if-is-billed.ensures in
-    let r = charged s (meaning c.args.table.now) month c.args.amount c.in-ok-amount.amount.cents c.in-ok-split.field-0 _ c.under.result.now c.activities.new.out c.split.new.out
-    c.in-ok-activities.ensures.answer c.in-ok-amount.ensures fits later c.in-ok-activities.ensures.activities c.under.ensures
-    (simp (length-take, length-drop) (omega (arith, c.counter-parties.ensures.few, ap length c.counter-parties.ensures.numbers)))
-    c.in-ok-split.ensures.answer c.in-ok-split.ensures.charged c.in-ok-split.ensures.fair in
+    let fits : month ≤ 959 = omega (arith, c.month.ensures, c.if-month-gt-LAST_MONTH.false) in
+    let later : is_later s.month month ≡ true = ap (is_later s.month) (sym c.month-else-month-gt-LAST_MONTH.ensures) ∙ sym c.if-is_billed.ensures in
+    let r = charged s (meaning c.args.table.now) month c.args.amount c.in_ok-amount.amount.cents c.in_ok-split.field-0 _ c.under.result.now c.activities.new.out c.split.new.out
+    c.in_ok-activities.ensures.answer c.in_ok-amount.ensures fits later c.in_ok-activities.ensures.activities c.under.ensures
+    (simp (length-take, length-drop) (omega (arith, c.counter_parties.ensures.few, ap length c.counter_parties.ensures.numbers)))
+    c.in_ok-split.ensures.answer c.in_ok-split.ensures.charged c.in_ok-split.ensures.fair in
     record { answer = r.0; fair = r.1 }

@@ -7,15 +7,15 @@ use Rattle.ledger.specs.Secure.{security_of, no_security, place_funded}
 use Rattle.ledger.proofs.Secured.{refused-place, funded-place}
 use Rattle.ledger.proofs.ledger.secure.fund_at.Goals as goal
 
-pub returns-in-err-fund : goal.returns-in-err-fund
-returns-in-err-fund g c =
+pub returns-in_err-fund : goal.returns-in_err-fund
+returns-in_err-fund g c =
     let row = c.args.row.now in
     let x = c.index-row-place.result in
     let means = security_of g.I.Instrument.held g.I.Instrument.room in
     let read : get_or (map means row) c.args.place no_security ≡ means x = get_or-map means row c.args.place _ no_security c.requires.within ∙ ap means (sym c.index-row-place.is) in
-    let p = err_from_is_err_and c.from-residual.result c.from-residual.ensures.1 in
+    let p = err_from_is_err_and c.from_residual.result c.from_residual.ensures.1 in
     rw (p.1, p.2) (record {
-      answer = refused-place (means x) c.args.means c.args.amount _ c.in-err-fund.ensures.answer ∙ ap (λ y. place_funded y c.args.means c.args.amount) (sym read);
+      answer = refused-place (means x) c.args.means c.args.amount _ c.in_err-fund.ensures.answer ∙ ap (λ y. place_funded y c.args.means c.args.amount) (sym read);
       helds = refl;
       others = λ j d o. refl;
       rooms = λ j d m. omega arith;
@@ -32,7 +32,7 @@ returns g c =
     let means = security_of g.I.Instrument.held g.I.Instrument.room in
     let read : get_or (map means row) place no_security ≡ means x = get_or-map means row place _ no_security c.requires.within ∙ ap means (sym c.index-row-place.is) in
     let h : get_or (map held row) place 0 ≡ held x = get_or-map held row place _ 0 c.requires.within ∙ ap held (sym c.index-row-place.is) in
-    let e = c.in-ok-fund.ensures in
+    let e = c.in_ok-fund.ensures in
     let f = funded-place (means x) c.args.means c.args.amount (held y) e.answer e.left in
     record {
       answer = ap Ok c.held.ensures ∙ f.1 ∙ ap (λ z. place_funded z c.args.means c.args.amount) (sym read);
