@@ -1,13 +1,14 @@
 -- A run draws for past-due invoices alone. Assumes nothing.
-use Rattle.std.proofs.Common.{◌≡◌, ℕ, ◌+◌, ◌-◌, Ok, Err, ap, ◌∙◌, arith}
+use Rattle.std.proofs.Common.{◌≡◌, ℕ, ◌+◌, ◌-◌, List, [], ◌∷◌, Ok, Err, ap, subst, ◌∙◌, arith}
+use Rattle.std.specs.List.{AllByRecursion as All}
 use Rattle.receivables.specs.Invoices.{is_past_due}
 use Rattle.ledger.specs.Model.{at}
 use Rattle.history.specs.Requests.{Request, register, enrol, bill, pay, fund, run, report, Answer, Reply}
 use Rattle.history.specs.Steps.{State, helds_of, Step}
-use Rattle.history.specs.Histories.{invoices_of, held_by}
+use Rattle.history.specs.Histories.{Moment, Linked, invoices_of, held_by}
 use Rattle.history.specs.PastDue.{past_due_by, DrawnForPastDue}
 use Rattle.history.proofs.NotDue.{not_due_by, owed-parts, not-due-stays}
-use Rattle.history.proofs.Keeps.{SoundState}
+use Rattle.history.proofs.Keeps.{SoundState, sound-step}
 use Rattle.history.proofs.Effects.{cents-step}
 
 drawn-only : (s t : State) (day minute : ℕ) (x : Answer) (p : ℕ) → Step s (run day minute) (Ok x) t → SoundState s
@@ -26,3 +27,9 @@ drawn-step s t (pay day minute account amount remark) (Ok x) h ok = tt
 drawn-step s t (fund p m n) (Ok x) h ok = tt
 drawn-step s t (run day minute) (Ok x) h ok = λ p. drawn-only s t day minute x p h ok
 drawn-step s t (report p) (Ok x) h ok = tt
+
+pub drawn-all : (s t : State) (ms : List Moment) → Linked s ms t → SoundState s → All (λ m. DrawnForPastDue m.before m.request m.reply m.next) ms
+drawn-all s t [] h ok = tt
+drawn-all s t (m ∷ ms) h ok =
+    let here = subst SoundState h.0 ok in
+    (drawn-step m.before m.next m.request m.reply h.1 here, drawn-all m.next t ms h.2 (sound-step m.before m.next m.request m.reply h.1 here))

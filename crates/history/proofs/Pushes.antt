@@ -1,11 +1,15 @@
 -- One call more at the end of a history. Assumes nothing.
 use Rattle.std.proofs.Common.{◌≡◌, ℕ, ◌+◌, ◌<◌, List, [], ◌∷◌, ◌++◌, map, length, get_or, take, sym, refl, ap, ◌∙◌}
 use Rattle.std.proofs.lemmas.List.{take_more, map_push}
+use Rattle.std.specs.List.{AllByRecursion as All}
 use Rattle.ledger.specs.Secure.{Security}
 use Rattle.history.specs.Requests.{Request, Reply}
 use Rattle.history.specs.Steps.{State, Step}
 use Rattle.history.specs.Histories.{Moment, Linked, History, begin}
-use Rattle.history.proofs.Laws.{law-of}
+use Rattle.history.specs.Places.{PlacesKept}
+use Rattle.history.specs.Whole.{WholeHistory}
+use Rattle.history.proofs.Laws.{law-of, sound-begin}
+use Rattle.history.proofs.OnlyPastDue.{drawn-all}
 
 linked-push : (ms : List Moment) (s t u : State) (q : Request) (r : Reply) → Linked s ms t → Step t q r u → Linked s (ms ++ record { before = t; request = q; reply = r; next = u } ∷ []) u
 linked-push [] s t u q r e step = (e, step, refl)
@@ -32,3 +36,32 @@ module _ {X : Type 0} (ask : X → Request) where
       let asked = map_push ask (take i calls) c in
       let grown = ap (λ x. take i calls ++ x ∷ []) read ∙ sym (take_more calls i c within) in
       rw (← grown, asked, said) (history-push account row t u (ask c) r h step)
+
+-- ---- the same of a history with what else holds of its calls
+all-push : {X : Type 0} (P : X → Type 0) (xs : List X) (x : X) → All P xs → P x → All P (xs ++ x ∷ [])
+all-push P [] x h here = (here, tt)
+all-push P (y ∷ ys) x h here = (h.0, all-push P ys x h.1 here)
+
+pub whole-none : (account : ℕ) (row : List Security) → WholeHistory account [] [] row (begin account row)
+unfolding history-none
+whole-none account row = record { history = history-none account row; places = tt; drawn = tt }
+
+pub whole-push : {qs : List Request} {rs : List Reply} (account : ℕ) (row : List Security) (t u : State) (q : Request) (r : Reply) → WholeHistory account qs rs row t → Step t q r u → PlacesKept t q r u
+    → WholeHistory account (qs ++ q ∷ []) (rs ++ r ∷ []) row u
+unfolding history-push
+whole-push account row t u q r w step kept =
+    let h = history-push account row t u q r w.history step in
+    record {
+      history = h;
+      places = all-push (λ m. PlacesKept m.before m.request m.reply m.next) w.history.moments _ w.places kept;
+      drawn = drawn-all (begin account row) u h.moments h.linked (sound-begin account row);
+    }
+
+module _ {X Y : Type 0} (ask : X → Request) (say : Y → Reply) where
+  pub whole_more : (account : ℕ) (calls : List X) (rs rs' : List Y) (row : List Security) (t u : State) (i : ℕ) (c : X) (r : Y) → i < length calls → c ≡ get_or calls i c → rs' ≡ rs ++ r ∷ []
+      → WholeHistory account (map ask (take i calls)) (map say rs) row t → Step t (ask c) (say r) u → PlacesKept t (ask c) (say r) u
+      → WholeHistory account (map ask (take (i + 1) calls)) (map say rs') row u
+  whole_more account calls rs rs' row t u i c r within read said h step kept =
+      let asked = map_push ask (take i calls) c in
+      let grown = ap (λ x. take i calls ++ x ∷ []) read ∙ sym (take_more calls i c within) in
+      rw (← grown, asked, said, map_push say rs r) (whole-push account row t u (ask c) (say r) h step kept)

@@ -4,3 +4,4 @@ pub mod Steps
 pub mod Places
 pub mod Histories
 pub mod PastDue
+pub mod Whole

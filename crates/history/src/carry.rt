@@ -2,9 +2,10 @@
 ghost use Rattle.std.specs.Prelude.{◌≡◌, ℕ, true, List, [], ◌∷◌, ◌++◌, map, is_err, IfOk};
 ghost use Rattle.ledger.specs.Secure.{Security, row_of};
 ghost use Rattle.history.specs.Requests.{Request, Reply};
-ghost use Rattle.history.specs.Calls.{request_of};
-ghost use Rattle.history.specs.Steps.{state_of, Step};
-ghost use Rattle.history.specs.Histories.{History};
+ghost use Rattle.history.specs.Calls.{request_of, reply_of};
+ghost use Rattle.history.specs.Steps.{Step};
+ghost use Rattle.history.specs.Places.{state_of, PlacesKept};
+ghost use Rattle.history.specs.Whole.{WholeHistory};
 
 use crate::answer::{Answer, replies};
 use crate::call::Call;
@@ -19,7 +20,8 @@ impl<C: Calendar> Call<'_, C> {
         ledger: &mut Ledger,
         row: &mut [I],
     ) -> Result<Answer, Fault>
-        ensures { Step (state_of I.held I.room ledger.old row.old) (request_of C.Calendar.meaning self.now) result (state_of I.held I.room ledger.new row.new) }
+        ensures step { Step (state_of I.held I.room ledger.old row.old) (request_of C.meaning self.now) (reply_of result) (state_of I.held I.room ledger.new row.new) }
+        ensures places { PlacesKept (state_of I.held I.room ledger.old row.old) (request_of C.meaning self.now) (reply_of result) (state_of I.held I.room ledger.new row.new) }
     {
         match self {
             Call::Register { counter_party } => replies::done(ledger.register(*counter_party)),
@@ -58,8 +60,9 @@ impl<C: Calendar> Call<'_, C> {
         ledger: &mut Ledger,
         row: &mut [I],
     ) -> Result<Answer, Fault>
-        ensures step { Step (state_of I.held I.room ledger.old row.old) (request_of C.Calendar.meaning self.now) result (state_of I.held I.room ledger.new row.new) }
-        ensures history { (account : ℕ) (requests : List Request) (replies : List Reply) (start : List Security) → History account requests replies start (state_of I.held I.room ledger.old row.old) → History account (requests ++ request_of C.Calendar.meaning self.now ∷ []) (replies ++ result ∷ []) start (state_of I.held I.room ledger.new row.new) }
+        ensures step { Step (state_of I.held I.room ledger.old row.old) (request_of C.meaning self.now) (reply_of result) (state_of I.held I.room ledger.new row.new) }
+        ensures places { PlacesKept (state_of I.held I.room ledger.old row.old) (request_of C.meaning self.now) (reply_of result) (state_of I.held I.room ledger.new row.new) }
+        ensures history { (account : ℕ) (requests : List Request) (replies : List Reply) (start : List Security) → WholeHistory account requests replies start (state_of I.held I.room ledger.old row.old) → WholeHistory account (requests ++ request_of C.meaning self.now ∷ []) (replies ++ reply_of result ∷ []) start (state_of I.held I.room ledger.new row.new) }
     {
         self.step(ledger, row)
     }
@@ -79,7 +82,7 @@ pub fn carry_out<I: Instrument + Copy, C: Calendar>(
     row: &mut [I],
     calls: &[Call<'_, C>],
 ) -> Result<Carried, AllocError>
-    ensures history { IfOk result (λ c. History account (map (request_of C.Calendar.meaning) calls.now) c.replies.items (row_of I.held I.room row.old) (state_of I.held I.room c.ledger row.new)) }
+    ensures history { IfOk result (λ c. WholeHistory account (map (request_of C.meaning) calls.now) (map reply_of c.replies.items) (row_of I.held I.room row.old) (state_of I.held I.room c.ledger row.new)) }
     ensures refused { is_err result ≡ true → row.new ≡ row.old }
 {
     let mut ledger = Ledger::new(heap, account)?;

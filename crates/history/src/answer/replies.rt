@@ -1,14 +1,14 @@
 // A call's own answer as a reply to any call.
 ghost use Rattle.std.specs.Prelude.{◌≡◌};
-ghost use Rattle.foundation.specs.Questions.{means};
-ghost use Rattle.history.specs.declared.answer.Answer.TheVariants as answer;
+ghost use Rattle.history.specs.Calls.{reply_of};
+ghost use Rattle.history.specs.Requests.{replied, done, issued, left, holds, drew, tells};
 
 use super::Answer;
 use ledger::{Billed, Fault, Report};
 use receivables::Outcome;
 
 pub(crate) fn done(reply: Result<(), Fault>) -> Result<Answer, Fault>
-    ensures { result ≡ means (λ _. answer.Done) reply }
+    ensures { reply_of result ≡ replied (λ _. done) reply }
 {
     match reply {
         Ok(_) => Ok(Answer::Done),
@@ -17,7 +17,7 @@ pub(crate) fn done(reply: Result<(), Fault>) -> Result<Answer, Fault>
 }
 
 pub(crate) fn issued(reply: Result<Billed, Fault>) -> Result<Answer, Fault>
-    ensures { result ≡ means answer.Issued reply }
+    ensures { reply_of result ≡ replied issued reply }
 {
     match reply {
         Ok(billed) => Ok(Answer::Issued(billed)),
@@ -26,7 +26,7 @@ pub(crate) fn issued(reply: Result<Billed, Fault>) -> Result<Answer, Fault>
 }
 
 pub(crate) fn left(reply: Result<u64, Fault>) -> Result<Answer, Fault>
-    ensures { result ≡ means answer.Left reply }
+    ensures { reply_of result ≡ replied left reply }
 {
     match reply {
         Ok(balance) => Ok(Answer::Left(balance)),
@@ -35,7 +35,7 @@ pub(crate) fn left(reply: Result<u64, Fault>) -> Result<Answer, Fault>
 }
 
 pub(crate) fn holds(reply: Result<u64, Fault>) -> Result<Answer, Fault>
-    ensures { result ≡ means answer.Holds reply }
+    ensures { reply_of result ≡ replied holds reply }
 {
     match reply {
         Ok(cents) => Ok(Answer::Holds(cents)),
@@ -44,7 +44,7 @@ pub(crate) fn holds(reply: Result<u64, Fault>) -> Result<Answer, Fault>
 }
 
 pub(crate) fn drew(reply: Result<Outcome, Fault>) -> Result<Answer, Fault>
-    ensures { result ≡ means answer.Drew reply }
+    ensures { reply_of result ≡ replied drew reply }
 {
     match reply {
         Ok(outcome) => Ok(Answer::Drew(outcome)),
@@ -53,7 +53,7 @@ pub(crate) fn drew(reply: Result<Outcome, Fault>) -> Result<Answer, Fault>
 }
 
 pub(crate) fn tells(reply: Result<Report, Fault>) -> Result<Answer, Fault>
-    ensures { result ≡ means answer.Tells reply }
+    ensures { reply_of result ≡ replied tells reply }
 {
     match reply {
         Ok(report) => Ok(Answer::Tells(report)),

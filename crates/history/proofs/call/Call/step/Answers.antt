@@ -1,8 +1,9 @@
 use Rattle.std.proofs.Common.{sym, subst}
 use Rattle.ledger.specs.Model.{model_of}
-use Rattle.history.specs.Calls.{request_of}
-use Rattle.history.specs.Steps.{state_of, Step}
-use Rattle.history.proofs.Made.{fund-made, run-made, report-made}
+use Rattle.history.specs.Calls.{request_of, reply_of}
+use Rattle.history.specs.Steps.{Step}
+use Rattle.history.specs.Places.{state_of, PlacesKept}
+use Rattle.history.proofs.Made.{fund-step, fund-places, run-step, run-places, report-step}
 use Rattle.history.proofs.call.Call.step.Goals as goal
 
 pub returns-in-Fund : goal.returns-in-Fund
@@ -13,24 +14,38 @@ returns-in-Fund g c =
     let s = model_of c.args.ledger.now in
     let row = c.args.row.now in
     let later = c.fund.new.row in
-    subst (λ q. Step (state_of held room c.args.ledger.now row) (request_of g.C.Calendar.meaning q) c.holds.result (state_of held room c.args.ledger.now later)) (sym c.in-Fund.is)
-    (fund-made held room s row later c.fund.auto.row c.in-Fund.counter-party c.in-Fund.means c.in-Fund.amount c.fund.result c.holds.result e.answer e.helds e.others e.rooms e.refused c.holds.ensures)
+    let before = state_of held room c.args.ledger.now row in
+    let next = state_of held room c.args.ledger.now later in
+    let is = sym c.in-Fund.is in
+    record {
+      step = subst (λ q. Step before (request_of g.C.Calendar.meaning q) (reply_of c.holds.result) next) is
+          (fund-step held room s row later c.fund.auto.row c.in-Fund.counter_party c.in-Fund.means c.in-Fund.amount c.fund.result (reply_of c.holds.result) e.answer e.helds c.holds.ensures);
+      places = subst (λ q. PlacesKept before (request_of g.C.Calendar.meaning q) (reply_of c.holds.result) next) is
+          (fund-places held room s row later c.fund.auto.row c.in-Fund.counter_party c.in-Fund.means c.in-Fund.amount c.fund.result (reply_of c.holds.result) e.others e.rooms e.refused c.holds.ensures);
+    }
 
 pub returns-in-PastDue : goal.returns-in-PastDue
 returns-in-PastDue g c =
     let held = g.I.Instrument.held in
     let room = g.I.Instrument.room in
-    let e = c.past-due.ensures in
+    let e = c.past_due.ensures in
     let s = model_of c.args.ledger.now in
     let row = c.args.row.now in
-    let later = c.past-due.new.row in
-    subst (λ q. Step (state_of held room c.args.ledger.now row) (request_of g.C.Calendar.meaning q) c.drew.result (state_of held room c.past-due.new.self later)) (sym c.in-PastDue.is)
-    (run-made held room s row later c.past-due.auto.row (model_of c.past-due.new.self) c.in-PastDue.day c.in-PastDue.minute c.past-due.result c.drew.result e.answer e.model e.helds e.others e.rooms e.refused c.drew.ensures)
+    let later = c.past_due.new.row in
+    let before = state_of held room c.args.ledger.now row in
+    let next = state_of held room c.past_due.new.self later in
+    let is = sym c.in-PastDue.is in
+    record {
+      step = subst (λ q. Step before (request_of g.C.Calendar.meaning q) (reply_of c.drew.result) next) is
+          (run-step held room s row later c.past_due.auto.row (model_of c.past_due.new.self) c.in-PastDue.day c.in-PastDue.minute c.past_due.result (reply_of c.drew.result) e.answer e.model e.helds c.drew.ensures);
+      places = subst (λ q. PlacesKept before (request_of g.C.Calendar.meaning q) (reply_of c.drew.result) next) is
+          (run-places held room s row later c.past_due.auto.row (model_of c.past_due.new.self) c.in-PastDue.day c.in-PastDue.minute c.past_due.result (reply_of c.drew.result) e.others e.rooms e.refused c.drew.ensures);
+    }
 
-pub returns-in-Report : goal.returns-in-Report
-returns-in-Report g c =
+pub returns-in-Report-clause-step : goal.returns-in-Report-clause-step
+returns-in-Report-clause-step g c =
     let held = g.I.Instrument.held in
     let room = g.I.Instrument.room in
     let row = c.args.row.now in
-    subst (λ q. Step (state_of held room c.args.ledger.now row) (request_of g.C.Calendar.meaning q) c.tells.result (state_of held room c.args.ledger.now row)) (sym c.in-Report.is)
-    (report-made held room (model_of c.args.ledger.now) row c.in-Report.counter-party c.report.result c.tells.result c.report.ensures c.tells.ensures)
+    subst (λ q. Step (state_of held room c.args.ledger.now row) (request_of g.C.Calendar.meaning q) (reply_of c.tells.result) (state_of held room c.args.ledger.now row)) (sym c.in-Report.is)
+    (report-step held room (model_of c.args.ledger.now) row c.in-Report.counter_party c.report.result (reply_of c.tells.result) c.report.ensures c.tells.ensures)
