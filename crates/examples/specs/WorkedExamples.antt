@@ -1,5 +1,5 @@
 -- What the rules give in worked cases. Assumes nothing.
-use Rattle.std.specs.Prelude.{◌≡◌, List, [], ◌∷◌, pos, negsuc, Some, None, codes}
+use Rattle.std.specs.Prelude.{◌≡◌, [], ◌∷◌, pos, negsuc, Some, None, codes}
 use Rattle.calendar.specs.Calendars.{weekly}
 use Rattle.calendar.specs.Due.{due_day_of}
 use Rattle.records.specs.declared.determinant.Determinant.TheVariants.{Rtmg, Rtdcimp, Rtamlexsecm}

@@ -1,8 +1,8 @@
 -- The charges of a bill, over all Counter-Parties, are its amount. Assumes nothing.
-use Rattle.std.proofs.Common.{◌≡◌, ℕ, zero, suc, ◌+◌, ◌<◌, ◌≤◌, Bool, true, false, cond, eqb, List, [], ◌∷◌, ◌++◌, map, length, get_or, Ok, Err, sum_by, sum, sym, refl, ap, ◌∙◌, subst, inl, inr, arith}
+use Rattle.std.proofs.Common.{◌≡◌, ℕ, zero, suc, ◌+◌, ◌<◌, ◌≤◌, cond, eqb, List, [], ◌∷◌, ◌++◌, map, length, get_or, Ok, Err, sum_by, sum, sym, refl, ap, ◌∙◌, arith}
 use Rattle.std.specs.List.{range_with_len, AllByRecursion as All}
 use Rattle.std.proofs.lemmas.List.FromFn.{length-map-range_with_len, get_or-map-range_with_len}
-use Rattle.std.proofs.lemmas.List.Sums.{sum_by-cons, sum-map}
+use Rattle.std.proofs.lemmas.List.Sums.{sum_by-cons}
 use Rattle.std.proofs.lemmas.Bool.{cond-true, cond-false, eq-eqb, ne_eqb}
 use Rattle.foundation.specs.Counting.{total}
 use Rattle.foundation.proofs.Totals.{total-same, sum-total, sum-counting}
@@ -12,9 +12,9 @@ use Rattle.split.specs.Split.{laid_out}
 use Rattle.receivables.specs.declared.charge.Charge.{Charge}
 use Rattle.receivables.specs.Issued.{charged_to}
 use Rattle.receivables.proofs.Owing.{Distinct}
-use Rattle.ledger.specs.Bill.{activities_of, charges_of, laid_charges, bills, bills_of, bill_asks}
+use Rattle.ledger.specs.Bill.{activities_of, charges_of, laid_charges, bills, bills_of}
 use Rattle.ledger.specs.Model.{Model}
-use Rattle.history.specs.Requests.{Request, register, enrol, bill, pay, fund, run, report, Reply, issued}
+use Rattle.history.specs.Requests.{Request, register, enrol, bill, pay, fund, run, report, Reply}
 use Rattle.history.specs.Steps.{State, Step}
 use Rattle.history.specs.Histories.{accepted, parties_of, billed_in, amount_in}
 use Rattle.history.proofs.Keeps.{SoundState}

@@ -1,5 +1,5 @@
 -- What one call does to cents owed and to security. Assumes nothing.
-use Rattle.std.proofs.Common.{◌≡◌, ℕ, ◌+◌, ◌-◌, ◌<◌, ◌≤◌, Bool, true, false, cond, eqb, leb, List, [], ◌∷◌, ◌++◌, length, get_or, set, is_some, Some, None, Ok, Err, sum, Option, unwrap_or, sym, refl, ap, ◌∙◌, subst, arith, eqb-true, leb-true}
+use Rattle.std.proofs.Common.{◌≡◌, ℕ, ◌+◌, ◌-◌, ◌<◌, ◌≤◌, Bool, true, cond, eqb, leb, List, [], ◌∷◌, length, get_or, is_some, Some, None, Ok, Err, sum, Option, unwrap_or, sym, refl, ap, ◌∙◌, subst, arith, leb-true}
 use borrow.Author.Tests.{eqb-false}
 use Rattle.std.specs.List.{AllByRecursion as All}
 use Rattle.std.proofs.lemmas.List.{length-map}
@@ -13,17 +13,15 @@ use Rattle.receivables.specs.Laws.{RunLaw, owed_at}
 use Rattle.receivables.specs.Run.{helds, outcome}
 use Rattle.receivables.proofs.Owing.{Placed, Distinct, owed_more, owed-less, owed-there}
 use Rattle.receivables.proofs.RunLaws.{run-law}
-use Rattle.ledger.specs.declared.fault.Fault.TheVariants.{Registry}
 use Rattle.ledger.specs.Bill.{bills_of, bill_asks}
 use Rattle.ledger.specs.Model.{at}
 use Rattle.ledger.specs.Pay.{pay_asks, payee}
 use Rattle.ledger.specs.Registries.{place_of}
-use Rattle.ledger.specs.Secure.{party_at, fund_asks, run_asks, place_asks}
+use Rattle.ledger.specs.Secure.{party_at, fund_asks, run_asks}
 use Rattle.ledger.proofs.Places.{place-within, place-number}
-use Rattle.history.specs.Requests.{Request, register, enrol, bill, pay, fund, run, report, Answer, Reply, done, issued, left, holds, drew, tells}
+use Rattle.history.specs.Requests.{Request, register, enrol, bill, pay, fund, run, report, Answer, Reply, issued, left, holds, drew, tells}
 use Rattle.history.specs.Steps.{State, helds_of, Step}
-use Rattle.history.specs.Histories.{accepted, invoices_of, parties_of, held_there, held_by, billed_in, paid_in, drawn_in, funded_in, total_in, FairBill, RightRun, Drained}
-use Rattle.history.proofs.Sound.{Sound}
+use Rattle.history.specs.Histories.{accepted, invoices_of, parties_of, held_there, held_by, billed_in, paid_in, drawn_in, funded_in, total_in, FairBill, RightRun}
 use Rattle.history.proofs.Keeps.{SoundState, sound-step, replied-ok, held_of, fair-bill}
 
 -- ---- a number's place

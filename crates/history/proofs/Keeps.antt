@@ -1,26 +1,25 @@
 -- Every call leaves a sound ledger sound. Assumes nothing.
-use Rattle.std.proofs.Common.{◌≡◌, ℕ, ◌<◌, ◌≤◌, Bool, true, false, cond, not, leb, List, [], ◌∷◌, ◌++◌, length, get_or, is_some, Ok, Err, sum, Result, unwrap_or, sym, refl, ap, ◌∙◌, subst, arith, ltb-true, leb-true}
+use Rattle.std.proofs.Common.{◌≡◌, ℕ, ◌≤◌, true, leb, List, get_or, Ok, Err, sum, Result, unwrap_or, sym, refl, ap, ◌∙◌, subst, arith, ltb-true, leb-true}
 use Rattle.std.specs.List.{AllByRecursion as All}
 use Rattle.std.proofs.lemmas.Bool.{and_parts}
 use Rattle.foundation.specs.Questions.{Question, verdict}
-use Rattle.foundation.proofs.Verdicts.{all_hold, all-ok, verdict-goes, the_value}
+use Rattle.foundation.proofs.Verdicts.{all_hold, all-ok, the_value}
 use Rattle.calendar.specs.Due.{due_day_of}
 use Rattle.activity.specs.Tables.{TableMeaning}
 use Rattle.split.specs.Laws.{FairSplit}
-use Rattle.split.specs.Split.{charges}
 use Rattle.split.proofs.Fairness.{fair}
 use Rattle.receivables.specs.Invoices.{is_past_due}
 use Rattle.ledger.specs.declared.fault.Fault.{Fault}
 use Rattle.ledger.specs.declared.fault.Fault.TheVariants.{Registry}
-use Rattle.ledger.specs.Bill.{activities_of, charges_of, laid_charges, bill_asks, bill_answer, charge_asks, charge_answer}
+use Rattle.ledger.specs.Bill.{activities_of, charges_of, laid_charges, bill_asks, charge_asks}
 use Rattle.ledger.specs.Enrolment.{register_asks, register_answer}
 use Rattle.ledger.specs.Model.{Model, at}
 use Rattle.ledger.specs.Pay.{payee}
 use Rattle.ledger.specs.Raised.{raised}
 use Rattle.ledger.proofs.Bills.{small-charges}
-use Rattle.history.specs.Requests.{Request, register, enrol, bill, pay, fund, run, report, Answer, Reply, replied, done, issued, left, holds, drew, tells}
+use Rattle.history.specs.Requests.{Request, register, enrol, bill, pay, fund, run, report, Answer, Reply, replied, issued}
 use Rattle.history.specs.Steps.{State, helds_of, Step}
-use Rattle.history.specs.Histories.{parties_of, invoices_of}
+use Rattle.history.specs.Histories.{parties_of}
 use Rattle.history.proofs.Sound.{Sound, sound-issue, sound-pay, sound-run, sound-register}
 
 -- an accepted reply comes from an accepted answer

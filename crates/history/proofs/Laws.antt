@@ -1,13 +1,12 @@
 -- The law over any list of calls. Assumes nothing.
-use Rattle.std.proofs.Common.{◌≡◌, ℕ, ◌+◌, ◌<◌, List, [], ◌∷◌, ◌++◌, map, length, get_or, sum_by, sum, sym, refl, ap, ◌∙◌, subst, arith}
+use Rattle.std.proofs.Common.{◌≡◌, ℕ, ◌+◌, List, [], ◌∷◌, sum_by, sum, sym, refl, ap, subst, arith}
 use Rattle.std.specs.List.{AllByRecursion as All}
 use Rattle.std.proofs.lemmas.List.Sums.{sum_by-cons}
 use Rattle.receivables.specs.Invoices.{owed_by}
 use Rattle.receivables.proofs.Owing.{Distinct}
 use Rattle.ledger.specs.Secure.{Security}
-use Rattle.history.specs.Steps.{State, helds_of, Step}
+use Rattle.history.specs.Steps.{State, helds_of}
 use Rattle.history.specs.Histories.{Moment, Linked, Law, begin, invoices_of, parties_of, charged, amount, payments, draws, funding, drawn_total, FairBill, RightRun}
-use Rattle.history.proofs.Sound.{Sound}
 use Rattle.history.proofs.Keeps.{SoundState, sound-step}
 use Rattle.history.proofs.Effects.{cents-step, security-step, fair-step, run_step}
 use Rattle.history.proofs.Amounts.{Extends, amount-step, extends-same, extends-on, extends-step, sum-none, sum_both}

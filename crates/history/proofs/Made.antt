@@ -1,5 +1,5 @@
 -- What the ledger's own contracts say of a funding, a run and a report is the step of that call, and what it leaves at each place. Assumes nothing.
-use Rattle.std.proofs.Common.{◌≡◌, ℕ, ◌≤◌, Bool, true, List, map, length, get_or, is_err, Ok, Err, Result, sym, refl, ap, ◌∙◌, subst}
+use Rattle.std.proofs.Common.{◌≡◌, ℕ, ◌≤◌, true, List, map, length, get_or, is_err, Ok, Err, Result, sym, refl, ap, ◌∙◌}
 use Rattle.foundation.specs.Questions.{after}
 use Rattle.security.specs.declared.means.Means.{Means}
 use Rattle.receivables.specs.declared.draws.Outcome.{Outcome}
@@ -12,7 +12,7 @@ use Rattle.ledger.specs.Model.{Model, at}
 use Rattle.ledger.specs.Secure.{row_of, party_at, fund_answer, funded, run_answer, ran, report_answer}
 use Rattle.history.specs.Requests.{fund, run, report, Answer, Reply, replied, holds, drew, tells}
 use Rattle.history.specs.Places.{PlacesKept}
-use Rattle.history.specs.Steps.{State, helds_of, Step}
+use Rattle.history.specs.Steps.{helds_of, Step}
 use Rattle.history.proofs.Rows.{helds-of, same-places, fewer-rooms}
 
 -- an answer decides what is there after a call, also when it is seen as a reply

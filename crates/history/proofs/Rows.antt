@@ -1,7 +1,7 @@
 -- What holds of a row of instruments holds of their meanings. Assumes nothing.
-use Rattle.std.proofs.Common.{◌≡◌, ℕ, zero, suc, ◌≤◌, List, [], ◌∷◌, map, length, get_or, sym, refl, ap, ◌∙◌, subst, arith}
+use Rattle.std.proofs.Common.{◌≡◌, ℕ, zero, suc, ◌≤◌, List, [], ◌∷◌, map, length, get_or, refl, ap, arith}
 use Rattle.security.specs.declared.means.Means.{Means}
-use Rattle.ledger.specs.Secure.{Security, security_of, row_of, no_security}
+use Rattle.ledger.specs.Secure.{security_of, row_of, no_security}
 use Rattle.history.specs.Steps.{helds_of}
 
 module _ {I : Type 0} (held : I → ℕ) (room : I → Means → ℕ) where

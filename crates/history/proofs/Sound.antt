@@ -1,21 +1,19 @@
 -- What holds of a ledger after any list of calls: its invoices are in order, each drawing on the place of the
 -- Counter-Party that it bills, and no Counter-Party is registered twice. Assumes nothing.
-use Rattle.std.proofs.Common.{◌≡◌, ℕ, zero, suc, ◌+◌, ◌<◌, ◌≤◌, Bool, true, false, cond, not, eqb, ltb, List, [], ◌∷◌, ◌++◌, map, length, get_or, is_some, Some, None, filter, Option, sym, refl, ap, ◌∙◌, subst, inl, inr, ⊎_elim, arith, ltb-true}
+use Rattle.std.proofs.Common.{◌≡◌, ℕ, zero, suc, ◌+◌, ◌<◌, ◌≤◌, Bool, true, false, cond, not, eqb, ltb, List, [], ◌∷◌, ◌++◌, map, length, get_or, is_some, Some, None, filter, Option, sym, refl, ap, ◌∙◌, subst, inl, inr, arith, ltb-true}
 use borrow.Author.Tests.{eqb-false}
 use Rattle.std.specs.List.{range_with_len, AllByRecursion as All}
-use Rattle.std.proofs.lemmas.List.{length-append, get_or_append_left, get_or-append-add}
 use Rattle.std.proofs.lemmas.Bool.{cases_lt}
 use Rattle.foundation.proofs.Firsts.{First, first-is}
 use Rattle.receivables.specs.declared.charge.Charge.{Charge}
 use Rattle.receivables.specs.declared.invoice.Event.TheVariants.{Payment, Draw, PastDue}
 use Rattle.receivables.specs.declared.invoice.Invoice.{Invoice}
-use Rattle.receivables.specs.declared.invoice.State.TheVariants.{Open}
 use Rattle.receivables.specs.Books.{Book}
 use Rattle.receivables.specs.Invoices.{told, unsettled}
 use Rattle.receivables.specs.Issued.{issued, issued_from, positive, after_issue}
 use Rattle.receivables.specs.Payments.{paid_on, after_pay}
 use Rattle.receivables.specs.Run.{drawn_on, drawn_all, held_after, paid, after_run}
-use Rattle.receivables.proofs.Lists.{Standing, Listed, kept-listed, pay-kept, run-kept}
+use Rattle.receivables.proofs.Lists.{Listed, kept-listed, pay-kept, run-kept}
 use Rattle.receivables.proofs.Owing.{Placed, Distinct, told-in-billed}
 use Rattle.receivables.proofs.RunLaws.{told-in-position}
 use Rattle.ledger.specs.Bill.{bills}

@@ -1,5 +1,5 @@
 -- What a call of the code asks. Assumes nothing.
-use Rattle.std.specs.Prelude.{List, Result}
+use Rattle.std.specs.Prelude.{Result}
 use Rattle.calendar.specs.Meaning.{CalendarMeaning}
 use Rattle.activity.specs.Months.{closed_month}
 use Rattle.activity.specs.Tables.{meaning}

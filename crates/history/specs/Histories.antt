@@ -1,5 +1,5 @@
 -- A list of calls, each finding what the one before it left, and what then holds of all of them. Assumes nothing.
-use Rattle.std.specs.Prelude.{◌≡◌, ℕ, ◌+◌, ◌-◌, Bool, true, false, cond, List, [], ◌∷◌, map, Some, None, Ok, Err, sum_by, sum, Option, slice_index}
+use Rattle.std.specs.Prelude.{◌≡◌, ℕ, ◌+◌, ◌-◌, Bool, true, false, List, [], ◌∷◌, map, Some, None, Ok, Err, sum_by, sum, Option, slice_index}
 use Rattle.std.specs.List.{AllByRecursion as All}
 use Rattle.split.specs.Laws.{FairSplit}
 use Rattle.receivables.specs.declared.invoice.Invoice.{Invoice}

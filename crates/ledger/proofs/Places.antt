@@ -1,5 +1,5 @@
 -- The position of a number. Assumes nothing.
-use Rattle.std.proofs.Common.{◌≡◌, ℕ, ◌<◌, eqb, List, length, get_or, Some, None, Option, sym, subst, eqb-true}
+use Rattle.std.proofs.Common.{◌≡◌, ℕ, ◌<◌, eqb, List, length, get_or, Some, Option, sym, subst, eqb-true}
 use Rattle.foundation.proofs.Firsts.{First, first-is}
 use Rattle.ledger.specs.Registries.{place_of}
 

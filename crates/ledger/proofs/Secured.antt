@@ -1,5 +1,5 @@
 -- What funding and the past-due run give together. Assumes nothing.
-use Rattle.std.proofs.Common.{◌≡◌, ℕ, zero, suc, ◌+◌, ◌<◌, ◌≤◌, min, Bool, true, false, cond, leb, List, [], ◌∷◌, length, get_or, replicate, is_some, Some, None, Ok, Err, Result, unwrap_or, sym, refl, ap, ◌∙◌, subst, arith, le-leb}
+use Rattle.std.proofs.Common.{◌≡◌, ℕ, zero, suc, ◌+◌, ◌<◌, ◌≤◌, min, Bool, true, false, cond, leb, List, [], ◌∷◌, length, get_or, replicate, is_some, Some, None, Ok, Err, Result, unwrap_or, sym, ap, ◌∙◌, arith, le-leb}
 use borrow.Author.Tests.{lt-leb}
 use Rattle.std.proofs.lemmas.Bool.{cond-true, cond-false}
 use Rattle.foundation.specs.Limits.{most_held}
@@ -12,7 +12,7 @@ use Rattle.security.specs.declared.means.Means.TheVariants as means
 use Rattle.security.specs.Funding.{numbered, fund_answer as instrument_answer, funded as instrument_funded}
 use Rattle.receivables.specs.declared.draws.Outcome.{Outcome}
 use Rattle.receivables.specs.Invoices.{is_past_due}
-use Rattle.receivables.specs.Run.{outcome, after_run}
+use Rattle.receivables.specs.Run.{outcome}
 use Rattle.ledger.specs.declared.answers.Report.{Report}
 use Rattle.ledger.specs.declared.fault.Fault.{Fault}
 use Rattle.ledger.specs.declared.fault.Fault.TheVariants.{Row, Means as MeansFault, Funding, Room}

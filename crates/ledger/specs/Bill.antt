@@ -1,12 +1,12 @@
 -- What a bill asks, answers and leaves. Assumes nothing.
-use Rattle.std.specs.Prelude.{ℕ, ◌+◌, Bool, ◌&&◌, List, [], ◌∷◌, map, length, is_some, Some, sum, Option, Result, nat_le, slice_index}
+use Rattle.std.specs.Prelude.{ℕ, ◌+◌, ◌&&◌, List, [], ◌∷◌, map, length, is_some, Some, sum, Result, nat_le, slice_index}
 use Rattle.std.specs.List.{range_with_len}
 use Rattle.std.specs.Option.{unwrap_or}
 use Rattle.foundation.specs.Limits.{last_month, most_activity, most_counter_parties}
 use Rattle.foundation.specs.Questions.{Question, asks, verdict}
 use Rattle.calendar.specs.Due.{due_day_of}
 use Rattle.calendar.specs.Meaning.{CalendarMeaning}
-use Rattle.calendar.specs.Moments.{When, is_moment}
+use Rattle.calendar.specs.Moments.{is_moment}
 use Rattle.records.specs.declared.fault.Fault.TheVariants as record-fault
 use Rattle.activity.specs.Activity.{activities}
 use Rattle.activity.specs.Tables.{TableMeaning, carries}

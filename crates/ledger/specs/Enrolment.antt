@@ -1,5 +1,5 @@
 -- What registering and enrolling ask, answer and leave. Assumes nothing.
-use Rattle.std.specs.Prelude.{ℕ, Bool, not, List, [], ◌∷◌, ◌++◌, length, is_some, Result, nat_lt}
+use Rattle.std.specs.Prelude.{ℕ, not, List, [], ◌∷◌, ◌++◌, length, is_some, Result, nat_lt}
 use Rattle.std.specs.Option.{unwrap_or}
 use Rattle.foundation.specs.Limits.{most_counter_parties, most_participants}
 use Rattle.foundation.specs.Questions.{Question, asks, verdict}

@@ -1,5 +1,5 @@
 -- What a payment asks, answers and leaves. Assumes nothing.
-use Rattle.std.specs.Prelude.{ℕ, ◌-◌, Bool, ◌&&◌, List, [], ◌∷◌, is_some, Some, Option, Result, ◌==◌, nat_le}
+use Rattle.std.specs.Prelude.{ℕ, ◌-◌, ◌&&◌, List, [], ◌∷◌, is_some, Some, Option, Result, ◌==◌, nat_le}
 use Rattle.std.specs.Option.{unwrap_or}
 use Rattle.foundation.specs.Questions.{Question, asks, verdict}
 use Rattle.calendar.specs.Moments.{When, is_moment}

@@ -1,5 +1,5 @@
 -- What a registry holds. Assumes nothing.
-use Rattle.std.specs.Prelude.{ℕ, Bool, false, ◌||◌, List, [], ◌∷◌, length, vec_items, Option, nat_eq, slice_index}
+use Rattle.std.specs.Prelude.{ℕ, List, [], length, vec_items, Option, nat_eq, slice_index}
 use Rattle.foundation.specs.Counting.{first}
 use Rattle.ledger.specs.declared.registry.Registry.{Registry}
 

@@ -1,9 +1,9 @@
 -- What funding, the past-due run and the report ask, answer and leave. Assumes nothing.
-use Rattle.std.specs.Prelude.{ℕ, ◌+◌, ◌-◌, ◌*◌, min, Bool, cond, ◌&&◌, List, [], ◌∷◌, map, length, is_some, Some, None, Option, Result, nat_le, slice_index, slice_index_or, slice_set}
+use Rattle.std.specs.Prelude.{ℕ, ◌+◌, ◌-◌, ◌*◌, min, Bool, ◌&&◌, List, [], ◌∷◌, map, length, is_some, Some, Result, nat_le, slice_index, slice_index_or, slice_set}
 use Rattle.std.specs.Option.{unwrap_or}
 use Rattle.foundation.specs.Limits.{most_held, most_funding}
 use Rattle.foundation.specs.Questions.{Question, asks, verdict}
-use Rattle.calendar.specs.Moments.{When, is_moment}
+use Rattle.calendar.specs.Moments.{is_moment}
 use Rattle.security.specs.declared.means.Means.{Means}
 use Rattle.security.specs.declared.means.Means.TheVariants as means
 use Rattle.security.specs.declared.means.FundingRefused.{FundingRefused}

@@ -1,4 +1,4 @@
-use Rattle.std.proofs.Common.{◌≡◌, ◌≤◌, true, length, take, drop, sym, ap, ◌∙◌, arith, length-drop, length-take, rules}
+use Rattle.std.proofs.Common.{◌≡◌, ◌≤◌, true, length, sym, ap, ◌∙◌, arith, length-drop, length-take}
 use Rattle.activity.specs.Tables.{meaning}
 use Rattle.ledger.specs.Model.{model_of, is_later}
 use Rattle.ledger.proofs.Bills.{charged}

@@ -1,4 +1,4 @@
-use Rattle.std.proofs.Common.{◌≡◌, ◌<◌, ◌≤◌, length, Some, sym, ap, ◌∙◌, arith}
+use Rattle.std.proofs.Common.{◌≡◌, ◌≤◌, length, Some, sym, ap, ◌∙◌, arith}
 use Rattle.ledger.specs.Model.{model_of}
 use Rattle.ledger.specs.Registries.{place_of}
 use Rattle.ledger.proofs.Places.{place-within}

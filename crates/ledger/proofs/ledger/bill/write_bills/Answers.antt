@@ -1,4 +1,4 @@
-use Rattle.std.proofs.Common.{◌≡◌, ℕ, length, get_or, arith}
+use Rattle.std.proofs.Common.{ℕ, length, get_or, arith}
 use Rattle.std.proofs.lemmas.List.FromFn.{fill_by_all}
 use Rattle.receivables.specs.declared.charge.Charge.{Charge}
 use Rattle.ledger.specs.Bill.{bills}
