@@ -1,7 +1,7 @@
 -- Questions in two lists, one after the other.
 use Rattle.std.proofs.Common.{◌≡◌, ℕ, Bool, true, false, cond, List, [], ◌∷◌, ◌++◌, Ok, Err, sym, refl, ◌∙◌, arith}
 use Rattle.std.proofs.lemmas.Bool.{cond-true}
-use Rattle.std.specs.List.{AllByRecursion as All}
+use Rattle.std.specs.List.{AllByRecursion}
 use Rattle.foundation.specs.Questions.{Question, verdict}
 
 -- a refusal of the first questions is the refusal of all
@@ -21,15 +21,15 @@ verdict-goes (p ∷ ps) qs u x v h = go p.holds (λ k. verdict-goes ps qs u x v 
   go false rest k = let z : ◌≡◌ {A = ℕ} 0 1 = cc in absurd (omega arith)
 
 -- an accepted call's questions all hold
-pub all_hold : {F X : Type 0} (qs : List (Question F)) (u x : X) → verdict qs u ≡ Ok x → All (λ q. q.holds ≡ true) qs
+pub all_hold : {F X : Type 0} (qs : List (Question F)) (u x : X) → verdict qs u ≡ Ok x → AllByRecursion (λ q. q.holds ≡ true) qs
 all_hold [] u x h = tt
 all_hold (q ∷ qs) u x h = go q.holds refl (λ k. all_hold qs u x k) h where
-  go : (b : Bool) → q.holds ≡ b → (verdict qs u ≡ Ok x → All (λ p. p.holds ≡ true) qs) → cond b (verdict qs u) (Err q.refusal) ≡ Ok x → All (λ p. p.holds ≡ true) (q ∷ qs)
+  go : (b : Bool) → q.holds ≡ b → (verdict qs u ≡ Ok x → AllByRecursion (λ p. p.holds ≡ true) qs) → cond b (verdict qs u) (Err q.refusal) ≡ Ok x → AllByRecursion (λ p. p.holds ≡ true) (q ∷ qs)
   go true e rest k = (e, rest k)
   go false e rest k = let z : ◌≡◌ {A = ℕ} 0 1 = cc in absurd (omega arith)
 
 -- where all hold, the answer is the value
-pub all-ok : {F X : Type 0} (qs : List (Question F)) (v : X) → All (λ q. q.holds ≡ true) qs → verdict qs v ≡ Ok v
+pub all-ok : {F X : Type 0} (qs : List (Question F)) (v : X) → AllByRecursion (λ q. q.holds ≡ true) qs → verdict qs v ≡ Ok v
 all-ok [] v h = refl
 all-ok (q ∷ qs) v h = cond-true q.holds (verdict qs v) (Err q.refusal) h.0 ∙ all-ok qs v h.1
 

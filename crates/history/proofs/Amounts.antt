@@ -1,6 +1,6 @@
 -- The charges of a bill, over all Counter-Parties, are its amount. Assumes nothing.
 use Rattle.std.proofs.Common.{◌≡◌, ℕ, zero, suc, ◌+◌, ◌<◌, ◌≤◌, cond, eqb, List, [], ◌∷◌, ◌++◌, map, length, get_or, Ok, Err, sum_by, sum, sym, refl, ap, ◌∙◌, arith}
-use Rattle.std.specs.List.{range_with_len, AllByRecursion as All}
+use Rattle.std.specs.List.{range_with_len, AllByRecursion}
 use Rattle.std.proofs.lemmas.List.FromFn.{length-map-range_with_len, get_or-map-range_with_len}
 use Rattle.std.proofs.lemmas.List.Sums.{sum_by-cons}
 use Rattle.std.proofs.lemmas.Bool.{cond-true, cond-false, eq-eqb, ne_eqb}
@@ -55,7 +55,7 @@ once b n (q ∷ qs) (suc k) d lt is =
 abbrev pub Extends : List ℕ → List ℕ → Type 0
 Extends ps qs = (k : ℕ) → k < length ps → (k < length qs) × (get_or qs k 0 ≡ get_or ps k 0)
 
-sum_of : (qs : List ℕ) (cs : List Charge) → Distinct qs → All (λ c. (c.position < length qs) × (get_or qs c.position 0 ≡ c.billed)) cs → sum_by (λ c. sum_by (λ q. cond (eqb c.billed q) c.cents 0) qs) cs ≡ sum_by (λ c. c.cents) cs
+sum_of : (qs : List ℕ) (cs : List Charge) → Distinct qs → AllByRecursion (λ c. (c.position < length qs) × (get_or qs c.position 0 ≡ c.billed)) cs → sum_by (λ c. sum_by (λ q. cond (eqb c.billed q) c.cents 0) qs) cs ≡ sum_by (λ c. c.cents) cs
 sum_of qs [] d a = refl
 sum_of qs (c ∷ cs) d a =
     omega (arith, sum_by-cons (λ x. sum_by (λ q. cond (eqb x.billed q) x.cents 0) qs) c cs, sum_by-cons (λ x. x.cents) c cs, once c.billed c.cents qs c.position d a.0.0 a.0.1, sum_of qs cs d a.1)
@@ -89,10 +89,10 @@ laid-sum cs n long few =
     total-same (λ k. get_or (laid_out cs 32) k 0) (λ k. get_or cs k 0) n (λ k lt. get_or-map-range_with_len (λ i. get_or cs i 0) 0 32 k k 0 (omega arith) (omega arith))
     ∙ ap (total (λ k. get_or cs k 0)) (sym long) ∙ sym (sum-total cs)
 
-placed-in : (ps cs qs : List ℕ) → Extends ps qs → All (At qs) (bills ps cs)
+placed-in : (ps cs qs : List ℕ) → Extends ps qs → AllByRecursion (At qs) (bills ps cs)
 unfolding bills
 placed-in ps cs qs ext = along 0 (length ps) (omega arith) where
-  along : (a n : ℕ) → a + n ≤ length ps → All (At qs) (map (made ps cs) (range_with_len a n))
+  along : (a n : ℕ) → a + n ≤ length ps → AllByRecursion (At qs) (map (made ps cs) (range_with_len a n))
   along a zero le = tt
   along a (suc n) le = (ext a (omega arith), along (a + 1) n (omega arith))
 

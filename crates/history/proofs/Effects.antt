@@ -1,7 +1,7 @@
 -- What one call does to cents owed and to security. Assumes nothing.
 use Rattle.std.proofs.Common.{◌≡◌, ℕ, ◌+◌, ◌-◌, ◌<◌, ◌≤◌, Bool, true, cond, eqb, leb, List, [], ◌∷◌, length, get_or, is_some, Some, None, Ok, Err, sum, Option, unwrap_or, sym, refl, ap, ◌∙◌, subst, arith, leb-true}
 use borrow.Author.Tests.{eqb-false}
-use Rattle.std.specs.List.{AllByRecursion as All}
+use Rattle.std.specs.List.{AllByRecursion}
 use Rattle.std.proofs.lemmas.List.{length-map}
 use Rattle.std.proofs.lemmas.List.Sums.{sum_by-cons, sum_by-set}
 use Rattle.std.proofs.lemmas.Bool.{and_parts, cond-false, ne_eqb}
@@ -54,7 +54,7 @@ module _ (past : Invoice → Bool) (p : ℕ) (parties : List ℕ) (vs ws : List 
         let w : owed_at k ws ≡ owed_by ws p = owed-there parties k ws d lt pw ∙ ap (owed_by ws) n in
         omega (arith, each k, falls k, v, w)
 
-all_both : {X : Type 0} (P Q R : X → Type 0) → ((x : X) → P x → Q x → R x) → (xs : List X) → All P xs → All Q xs → All R xs
+all_both : {X : Type 0} (P Q R : X → Type 0) → ((x : X) → P x → Q x → R x) → (xs : List X) → AllByRecursion P xs → AllByRecursion Q xs → AllByRecursion R xs
 all_both P Q R both [] p q = tt
 all_both P Q R both (x ∷ xs) p q = (both x p.0 q.0, all_both P Q R both xs p.1 q.1)
 

@@ -1,6 +1,6 @@
 -- Every call leaves a sound ledger sound. Assumes nothing.
 use Rattle.std.proofs.Common.{◌≡◌, ℕ, ◌≤◌, true, leb, List, get_or, Ok, Err, sum, Result, unwrap_or, sym, refl, ap, ◌∙◌, subst, arith, ltb-true, leb-true}
-use Rattle.std.specs.List.{AllByRecursion as All}
+use Rattle.std.specs.List.{AllByRecursion}
 use Rattle.std.proofs.lemmas.Bool.{and_parts}
 use Rattle.foundation.specs.Questions.{Question, verdict}
 use Rattle.foundation.proofs.Verdicts.{all_hold, all-ok, the_value}
@@ -31,14 +31,14 @@ raised-ok : {F G X : Type 0} (f : F → G) (a : Result X F) (x : X) → raised f
 raised-ok f (Ok y) x h = cc
 raised-ok f (Err e) x h = let z : ◌≡◌ {A = ℕ} 0 1 = cc in absurd (omega arith)
 
-pub held_of : {X : Type 0} (f : X → Answer) (qs : List (Question Fault)) (v : X) (x : Answer) → Ok x ≡ replied f (verdict qs v) → All (λ q. q.holds ≡ true) qs × (x ≡ f v)
+pub held_of : {X : Type 0} (f : X → Answer) (qs : List (Question Fault)) (v : X) (x : Answer) → Ok x ≡ replied f (verdict qs v) → AllByRecursion (λ q. q.holds ≡ true) qs × (x ≡ f v)
 held_of f qs v x h =
     let y = replied-ok f (verdict qs v) x h in
     (all_hold qs v y.0 y.1, y.2 ∙ ap f (the_value qs v y.0 (sym y.1)))
 
 -- ---- what an accepted bill was asked
 module _ (s : Model) (t : TableMeaning) (month amount : ℕ) where
-  pub fair-bill : All (λ q. q.holds ≡ true) (charge_asks s t month amount) → FairSplit amount (activities_of s t) (charges_of s t amount)
+  pub fair-bill : AllByRecursion (λ q. q.holds ≡ true) (charge_asks s t month amount) → FairSplit amount (activities_of s t) (charges_of s t amount)
   fair-bill h =
       let sums = h.1.1.1 in
       let is = and_parts (leb 1 amount) (leb amount 1000000000) h.1.0 in
@@ -49,7 +49,7 @@ module _ (s : Model) (t : TableMeaning) (month amount : ℕ) where
         sum_fits = leb-true (sum (activities_of s t)) 8000000000 sums.1.0;
       })
 
-  pub bill-small : All (λ q. q.holds ≡ true) (charge_asks s t month amount) → (k : ℕ) → get_or (laid_charges s t amount) k 0 ≤ 4294967295
+  pub bill-small : AllByRecursion (λ q. q.holds ≡ true) (charge_asks s t month amount) → (k : ℕ) → get_or (laid_charges s t amount) k 0 ≤ 4294967295
   bill-small h = (small-charges s t month amount (laid_charges s t amount) (sym (all-ok (charge_asks s t month amount) (laid_charges s t amount) h)) (fair-bill h)).1
 
 abbrev pub SoundState : State → Type 0

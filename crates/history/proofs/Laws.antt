@@ -1,6 +1,6 @@
 -- The law over any list of calls. Assumes nothing.
 use Rattle.std.proofs.Common.{◌≡◌, ℕ, ◌+◌, List, [], ◌∷◌, sum_by, sum, sym, refl, ap, subst, arith}
-use Rattle.std.specs.List.{AllByRecursion as All}
+use Rattle.std.specs.List.{AllByRecursion}
 use Rattle.std.proofs.lemmas.List.Sums.{sum_by-cons}
 use Rattle.receivables.specs.Invoices.{owed_by}
 use Rattle.receivables.proofs.Owing.{Distinct}
@@ -42,11 +42,11 @@ security-all s t (m ∷ ms) h ok =
     let next = sound-step m.before m.next m.request m.reply h.1 here in
     omega (arith, ap (λ u. sum (helds_of u.row)) h.0, security-step m.before m.next m.request m.reply h.1 here, security-all m.next t ms h.2 next, sum_by-cons funding m ms, sum_by-cons drawn_total m ms)
 
-fair-all : (s t : State) (ms : List Moment) → Linked s ms t → All (λ m. FairBill m.before m.request m.reply) ms
+fair-all : (s t : State) (ms : List Moment) → Linked s ms t → AllByRecursion (λ m. FairBill m.before m.request m.reply) ms
 fair-all s t [] h = tt
 fair-all s t (m ∷ ms) h = (fair-step m.before m.next m.request m.reply h.1, fair-all m.next t ms h.2)
 
-runs-all : (s t : State) (ms : List Moment) → Linked s ms t → SoundState s → All (λ m. RightRun m.before m.request m.reply m.next) ms
+runs-all : (s t : State) (ms : List Moment) → Linked s ms t → SoundState s → AllByRecursion (λ m. RightRun m.before m.request m.reply m.next) ms
 runs-all s t [] h ok = tt
 runs-all s t (m ∷ ms) h ok =
     let here = sound-from s m h.0 ok in

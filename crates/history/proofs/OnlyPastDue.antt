@@ -1,6 +1,6 @@
 -- A run draws for past-due invoices alone. Assumes nothing.
 use Rattle.std.proofs.Common.{◌≡◌, ℕ, ◌+◌, ◌-◌, List, [], ◌∷◌, Ok, Err, ap, subst, ◌∙◌, arith}
-use Rattle.std.specs.List.{AllByRecursion as All}
+use Rattle.std.specs.List.{AllByRecursion}
 use Rattle.receivables.specs.Invoices.{is_past_due}
 use Rattle.ledger.specs.Model.{at}
 use Rattle.history.specs.Requests.{Request, register, enrol, bill, pay, fund, run, report, Answer, Reply}
@@ -28,7 +28,7 @@ drawn-step s t (fund p m n) (Ok x) h ok = tt
 drawn-step s t (run day minute) (Ok x) h ok = λ p. drawn-only s t day minute x p h ok
 drawn-step s t (report p) (Ok x) h ok = tt
 
-pub drawn-all : (s t : State) (ms : List Moment) → Linked s ms t → SoundState s → All (λ m. DrawnForPastDue m.before m.request m.reply m.next) ms
+pub drawn-all : (s t : State) (ms : List Moment) → Linked s ms t → SoundState s → AllByRecursion (λ m. DrawnForPastDue m.before m.request m.reply m.next) ms
 drawn-all s t [] h ok = tt
 drawn-all s t (m ∷ ms) h ok =
     let here = subst SoundState h.0 ok in

@@ -1,7 +1,7 @@
 -- One call more at the end of a history. Assumes nothing.
 use Rattle.std.proofs.Common.{◌≡◌, ℕ, ◌+◌, ◌<◌, List, [], ◌∷◌, ◌++◌, map, length, get_or, take, sym, refl, ap, ◌∙◌}
 use Rattle.std.proofs.lemmas.List.{take_more, map_push}
-use Rattle.std.specs.List.{AllByRecursion as All}
+use Rattle.std.specs.List.{AllByRecursion}
 use Rattle.ledger.specs.Secure.{Security}
 use Rattle.history.specs.Requests.{Request, Reply}
 use Rattle.history.specs.Steps.{State, Step}
@@ -38,7 +38,7 @@ module _ {X : Type 0} (ask : X → Request) where
       rw (← grown, asked, said) (history-push account row t u (ask c) r h step)
 
 -- ---- the same of a history with what else holds of its calls
-all-push : {X : Type 0} (P : X → Type 0) (xs : List X) (x : X) → All P xs → P x → All P (xs ++ x ∷ [])
+all-push : {X : Type 0} (P : X → Type 0) (xs : List X) (x : X) → AllByRecursion P xs → P x → AllByRecursion P (xs ++ x ∷ [])
 all-push P [] x h here = (here, tt)
 all-push P (y ∷ ys) x h here = (h.0, all-push P ys x h.1 here)
 

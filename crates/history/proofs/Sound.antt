@@ -2,7 +2,7 @@
 -- Counter-Party that it bills, and no Counter-Party is registered twice. Assumes nothing.
 use Rattle.std.proofs.Common.{◌≡◌, ℕ, zero, suc, ◌+◌, ◌<◌, ◌≤◌, Bool, true, false, cond, not, eqb, ltb, List, [], ◌∷◌, ◌++◌, map, length, get_or, is_some, Some, None, filter, Option, sym, refl, ap, ◌∙◌, subst, inl, inr, arith, ltb-true}
 use borrow.Author.Tests.{eqb-false}
-use Rattle.std.specs.List.{range_with_len, AllByRecursion as All}
+use Rattle.std.specs.List.{range_with_len, AllByRecursion}
 use Rattle.std.proofs.lemmas.Bool.{cases_lt}
 use Rattle.foundation.proofs.Firsts.{First, first-is}
 use Rattle.receivables.specs.declared.charge.Charge.{Charge}
@@ -26,27 +26,27 @@ pub record Sound (parties : List ℕ) (b : Book) : Type 0 where
   pub few : length parties ≤ 32
 
 -- ---- lists
-all_append : {X : Type 0} (P : X → Type 0) (xs ys : List X) → All P xs → All P ys → All P (xs ++ ys)
+all_append : {X : Type 0} (P : X → Type 0) (xs ys : List X) → AllByRecursion P xs → AllByRecursion P ys → AllByRecursion P (xs ++ ys)
 all_append P [] ys a b = b
 all_append P (x ∷ xs) ys a b = (a.0, all_append P xs ys a.1 b)
 
-all-kept : {X : Type 0} (P : X → Type 0) (q : X → Bool) (xs : List X) → All P xs → All P (filter q xs)
+all-kept : {X : Type 0} (P : X → Type 0) (q : X → Bool) (xs : List X) → AllByRecursion P xs → AllByRecursion P (filter q xs)
 all-kept P q [] a = tt
 all-kept P q (x ∷ xs) a =
     let rest = all-kept P q xs a.1 in
-    elim (q x) as (λ b. All P (cond b (x ∷ filter q xs) (filter q xs))) [ true ↦ (a.0, rest) | false ↦ rest ]
+    elim (q x) as (λ b. AllByRecursion P (cond b (x ∷ filter q xs) (filter q xs))) [ true ↦ (a.0, rest) | false ↦ rest ]
 
-all-mapped : {X : Type 0} (P : X → Type 0) (f : X → X) → ((x : X) → P x → P (f x)) → (xs : List X) → All P xs → All P (map f xs)
+all-mapped : {X : Type 0} (P : X → Type 0) (f : X → X) → ((x : X) → P x → P (f x)) → (xs : List X) → AllByRecursion P xs → AllByRecursion P (map f xs)
 all-mapped P f step [] a = tt
 all-mapped P f step (x ∷ xs) a = (step x a.0, all-mapped P f step xs a.1)
 
-all-counted : {X : Type 0} (P : X → Type 0) (f : ℕ → X) (a n top : ℕ) → a + n ≡ top → ((k : ℕ) → k < top → P (f k)) → All P (map f (range_with_len a n))
+all-counted : {X : Type 0} (P : X → Type 0) (f : ℕ → X) (a n top : ℕ) → a + n ≡ top → ((k : ℕ) → k < top → P (f k)) → AllByRecursion P (map f (range_with_len a n))
 all-counted P f a zero top e h = tt
 all-counted P f a (suc n) top e h = (h a (omega (arith, e)), all-counted P f (a + 1) n top (omega (arith, e)) h)
 
 -- ---- issuing
 module _ (due : ℕ) where
-  issued-listed : (low n : ℕ) (cs : List Charge) → low ≤ n → All (λ c. c.cents ≤ 4294967295) cs → Listed low (n + positive cs) (issued_from n due cs)
+  issued-listed : (low n : ℕ) (cs : List Charge) → low ≤ n → AllByRecursion (λ c. c.cents ≤ 4294967295) cs → Listed low (n + positive cs) (issued_from n due cs)
   issued-listed low n [] le small = omega arith
   issued-listed low n (c ∷ cs) le small = go (ltb 0 c.cents) refl (issued-listed (n + 1) (n + 1) cs (omega arith) small.1) (issued-listed low n cs le small.1) where
     go : (b : Bool) → ltb 0 c.cents ≡ b → Listed (n + 1) (n + 1 + positive cs) (issued_from (n + 1) due cs) → Listed low (n + positive cs) (issued_from n due cs)
@@ -54,22 +54,22 @@ module _ (due : ℕ) where
     go true t one none = (le, record { more = ltb-true 0 c.cents t; small = small.0; here = refl }, subst (λ m. Listed (n + 1) m (issued_from (n + 1) due cs)) (omega arith) one)
     go false t one none = none
 
-  more-listed : (low n : ℕ) (vs : List Invoice) (cs : List Charge) → Listed low n vs → All (λ c. c.cents ≤ 4294967295) cs → Listed low (n + positive cs) (vs ++ issued_from n due cs)
+  more-listed : (low n : ℕ) (vs : List Invoice) (cs : List Charge) → Listed low n vs → AllByRecursion (λ c. c.cents ≤ 4294967295) cs → Listed low (n + positive cs) (vs ++ issued_from n due cs)
   more-listed low n [] cs l small = issued-listed low n cs l small
   more-listed low n (v ∷ vs) cs l small = (l.0, l.1, more-listed (v.number + 1) n vs cs l.2 small)
 
-  issued-placed : (parties : List ℕ) (n : ℕ) (cs : List Charge) → All (λ c. (c.position < length parties) × (get_or parties c.position 0 ≡ c.billed)) cs → Placed parties (issued_from n due cs)
+  issued-placed : (parties : List ℕ) (n : ℕ) (cs : List Charge) → AllByRecursion (λ c. (c.position < length parties) × (get_or parties c.position 0 ≡ c.billed)) cs → Placed parties (issued_from n due cs)
   issued-placed parties n [] a = tt
   issued-placed parties n (c ∷ cs) a =
       let one = issued-placed parties (n + 1) cs a.1 in
       let none = issued-placed parties n cs a.1 in
       elim (ltb 0 c.cents) as (λ b. Placed parties (cond b (issued n due c ∷ issued_from (n + 1) due cs) (issued_from n due cs))) [ true ↦ (a.0, one) | false ↦ none ]
 
-bills-small : (parties cs : List ℕ) → ((k : ℕ) → get_or cs k 0 ≤ 4294967295) → All (λ c. c.cents ≤ 4294967295) (bills parties cs)
+bills-small : (parties cs : List ℕ) → ((k : ℕ) → get_or cs k 0 ≤ 4294967295) → AllByRecursion (λ c. c.cents ≤ 4294967295) (bills parties cs)
 unfolding bills
 bills-small parties cs small = all-counted _ _ 0 (length parties) (length parties) (omega arith) (λ k lt. small k)
 
-bills-placed : (parties cs : List ℕ) → All (λ c. (c.position < length parties) × (get_or parties c.position 0 ≡ c.billed)) (bills parties cs)
+bills-placed : (parties cs : List ℕ) → AllByRecursion (λ c. (c.position < length parties) × (get_or parties c.position 0 ≡ c.billed)) (bills parties cs)
 unfolding bills
 bills-placed parties cs = all-counted _ _ 0 (length parties) (length parties) (omega arith) (λ k lt. (lt, refl))
 

@@ -1,6 +1,6 @@
 -- A list of calls, each finding what the one before it left, and what then holds of all of them. Assumes nothing.
 use Rattle.std.specs.Prelude.{◌≡◌, ℕ, ◌+◌, ◌-◌, Bool, true, false, List, [], ◌∷◌, map, Some, None, Ok, Err, sum_by, sum, Option, slice_index}
-use Rattle.std.specs.List.{AllByRecursion as All}
+use Rattle.std.specs.List.{AllByRecursion}
 use Rattle.split.specs.Laws.{FairSplit}
 use Rattle.receivables.specs.declared.invoice.Invoice.{Invoice}
 use Rattle.receivables.specs.Invoices.{is_past_due, owed_by}
@@ -133,8 +133,8 @@ FairBill s (report p) (Ok x) = Unit {0}
 
 -- ---- a run that leaves t: past due and owed only where the security is empty; not past due, the balance stays
 pub record Drained (past : Invoice → Bool) (s t : State) : Type 0 where
-  pub empty : All (λ v. past v ≡ true → held_by t v.billed ≡ 0) (invoices_of t)
-  pub spared : All (λ v. past v ≡ false → balance_of (invoices_of t) v.number ≡ v.balance) (invoices_of s)
+  pub empty : AllByRecursion (λ v. past v ≡ true → held_by t v.billed ≡ 0) (invoices_of t)
+  pub spared : AllByRecursion (λ v. past v ≡ false → balance_of (invoices_of t) v.number ≡ v.balance) (invoices_of s)
 
 abbrev pub RightRun : State → Request → Reply → State → Type 0
 RightRun s q (Err f) t = Unit {0}
@@ -158,9 +158,9 @@ pub record Law (start : State) (ms : List Moment) (end : State) : Type 0 where
   -- security at the start and funded is security drawn and left
   pub security : sum (helds_of start.row) + sum_by funding ms ≡ sum_by drawn_total ms + sum (helds_of end.row)
   -- every accepted bill is split fairly
-  pub fair : All (λ m. FairBill m.before m.request m.reply) ms
+  pub fair : AllByRecursion (λ m. FairBill m.before m.request m.reply) ms
   -- every accepted run leaves what it should
-  pub runs : All (λ m. RightRun m.before m.request m.reply m.next) ms
+  pub runs : AllByRecursion (λ m. RightRun m.before m.request m.reply m.next) ms
 
 -- the history of these requests and replies, from a new ledger and a row on
 pub record History (account : ℕ) (requests : List Request) (replies : List Reply) (row : List Security) (end : State) : Type 0 where

@@ -1,7 +1,7 @@
 -- The invoices keep their order and stand, whatever events they are told, once the settled ones are out. Assumes nothing.
 use Rattle.std.proofs.Common.{◌≡◌, ℕ, suc, ◌+◌, ◌<◌, ◌≤◌, Bool, true, false, cond, not, eqb, ltb, List, [], ◌∷◌, ◌++◌, map, length, filter, refl, ap, ◌∙◌, arith}
 use Rattle.std.proofs.lemmas.List.Filters.{length-filter_both}
-use Rattle.std.specs.List.{AllByRecursion as All}
+use Rattle.std.specs.List.{AllByRecursion}
 use Rattle.std.proofs.lemmas.Bool.{and_parts, and_from, leb-true, le-leb, ltb-true, lt-ltb}
 use Rattle.receivables.specs.declared.invoice.State.{State}
 use Rattle.receivables.specs.declared.invoice.State.TheVariants.{Open, Short, Settled}
@@ -42,7 +42,7 @@ pub unlists : (low high : ℕ) (vs : List Invoice) → Listed low high vs → li
 unlists low high [] l = le-leb low high l
 unlists low high (v ∷ vs) l = and_from _ _ (le-leb low v.number l.0) (and_from _ _ (stood v l.1) (unlists (v.number + 1) high vs l.2))
 
-pub all_small : (low high : ℕ) (vs : List Invoice) → Listed low high vs → All (λ v. v.balance ≤ 4294967295) vs
+pub all_small : (low high : ℕ) (vs : List Invoice) → Listed low high vs → AllByRecursion (λ v. v.balance ≤ 4294967295) vs
 all_small low high [] l = tt
 all_small low high (v ∷ vs) l = (l.1.small, all_small (v.number + 1) high vs l.2)
 
@@ -145,6 +145,6 @@ pub listed-long : (low high : ℕ) (vs : List Invoice) → Listed low high vs �
 listed-long low high [] l = omega (arith, l)
 listed-long low high (v ∷ vs) l = omega (arith, l.0, listed-long (v.number + 1) high vs l.2)
 
-pub numbers-from : (low low' high : ℕ) (vs : List Invoice) → low' ≤ low → Listed low high vs → All (λ u. low' ≤ u.number) vs
+pub numbers-from : (low low' high : ℕ) (vs : List Invoice) → low' ≤ low → Listed low high vs → AllByRecursion (λ u. low' ≤ u.number) vs
 numbers-from low low' high [] le l = tt
 numbers-from low low' high (v ∷ vs) le l = (omega (arith, l.0), numbers-from (v.number + 1) low' high vs (omega (arith, l.0)) l.2)

@@ -1,6 +1,6 @@
 -- What a Counter-Party owes, invoice by invoice. Assumes nothing.
 use Rattle.std.proofs.Common.{◌≡◌, ℕ, ◌+◌, ◌*◌, ◌<◌, ◌≤◌, Bool, true, false, cond, eqb, List, [], ◌∷◌, length, get_or, take, ap, ◌∙◌, arith, eq-eqb, ne_eqb}
-use Rattle.std.specs.List.{AllByRecursion as All}
+use Rattle.std.specs.List.{AllByRecursion}
 use Rattle.std.proofs.lemmas.List.Sums.{sum_by_more, sum_by-take-le}
 use Rattle.std.proofs.ByRecursion.{sum_by_le}
 use Rattle.std.proofs.lemmas.Bool.{cond-true, cond-false}
@@ -17,7 +17,7 @@ module _ (party : ℕ) where
     go true = h
     go false = omega arith
 
-  small-parts : (vs : List Invoice) → All (λ v. v.balance ≤ 4294967295) vs → All (λ v. part v ≤ 4294967295) vs
+  small-parts : (vs : List Invoice) → AllByRecursion (λ v. v.balance ≤ 4294967295) vs → AllByRecursion (λ v. part v ≤ 4294967295) vs
   small-parts [] h = tt
   small-parts (v ∷ vs) h = (small-part v h.0, small-parts vs h.1)
 
@@ -28,5 +28,5 @@ module _ (party : ℕ) where
     pub owed-other : ((get_or vs i nothing).billed ≡ party → ⊥) → owed_by (take (i + 1) vs) party ≡ owed_by (take i vs) party
     owed-other e = sum_by_more part vs i nothing lt ∙ ap (λ n. owed_by (take i vs) party + n) (cond-false _ (get_or vs i nothing).balance 0 (ne_eqb _ _ e)) ∙ omega arith
 
-  pub owed-fits : (vs : List Invoice) (i : ℕ) → length vs ≤ 4294967295 → All (λ v. v.balance ≤ 4294967295) vs → owed_by (take i vs) party ≤ 4294967295 * 4294967295
+  pub owed-fits : (vs : List Invoice) (i : ℕ) → length vs ≤ 4294967295 → AllByRecursion (λ v. v.balance ≤ 4294967295) vs → owed_by (take i vs) party ≤ 4294967295 * 4294967295
   owed-fits vs i few small = omega (arith, sum_by-take-le part vs i, sum_by_le part 4294967295 vs (small-parts vs small), few)

@@ -1,6 +1,6 @@
 -- What issuing, paying and a run do to what a Counter-Party owes. Assumes nothing.
 use Rattle.std.proofs.Common.{◌≡◌, ℕ, ◌+◌, ◌-◌, ◌<◌, ◌≤◌, Bool, true, false, cond, eqb, ltb, List, [], ◌∷◌, ◌++◌, map, length, get_or, Some, filter, sym, refl, ap, ◌∙◌, subst, inl, inr, arith}
-use Rattle.std.specs.List.{AllByRecursion as All}
+use Rattle.std.specs.List.{AllByRecursion}
 use Rattle.std.proofs.lemmas.List.Sums.{sum_by-cons, sum_by-append}
 use Rattle.std.proofs.lemmas.Bool.{cond-true, cond-false, eq-eqb, ne_eqb, ltb-false}
 use Rattle.receivables.specs.declared.charge.Charge.{Charge}
@@ -77,7 +77,7 @@ module _ (party : ℕ) where
     here same =
         let on : eqb v.number n ≡ true = eq-eqb v.number n same in
         let w : Invoice = told v (Payment amount) in
-        let rest = others_same n amount vs (subst (λ m. All (λ u. m < u.number) vs) same (all-later v.number vs (numbers-from (v.number + 1) (v.number + 1) high vs (omega arith) l.2))) in
+        let rest = others_same n amount vs (subst (λ m. AllByRecursion (λ u. m < u.number) vs) same (all-later v.number vs (numbers-from (v.number + 1) (v.number + 1) high vs (omega arith) l.2))) in
         let list : map (paid_on n amount) (v ∷ vs) ≡ w ∷ vs = ap (λ u. u ∷ map (paid_on n amount) vs) (cond-true _ _ _ on) ∙ ap (λ us. w ∷ us) rest in
         let clear = told-in-clear v.state v (Payment amount) refl (standing-clear v l.1) in
         let owed = ap (λ us. owed_by (filter unsettled us) party) list ∙ swept-one w (filter unsettled vs) clear in
@@ -97,7 +97,7 @@ module _ (party : ℕ) where
 
 -- ---- the place of a Counter-Party's security
 abbrev pub Placed : List ℕ → List Invoice → Type 0
-Placed parties vs = All (λ v. (v.position < length parties) × (get_or parties v.position 0 ≡ v.billed)) vs
+Placed parties vs = AllByRecursion (λ v. (v.position < length parties) × (get_or parties v.position 0 ≡ v.billed)) vs
 
 -- no number stands twice
 abbrev pub Distinct : List ℕ → Type 0

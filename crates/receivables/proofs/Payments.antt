@@ -1,6 +1,6 @@
 -- The invoice that a payment names. Assumes nothing.
 use Rattle.std.proofs.Common.{◌≡◌, ℕ, zero, suc, ◌+◌, ◌-◌, ◌<◌, ◌≤◌, Bool, true, false, ◌&&◌, ◌||◌, eqb, leb, List, [], ◌∷◌, map, length, get_or, set, Some, None, Ok, Err, sym, refl, ap, ◌∙◌, subst, arith, eqb-true}
-use Rattle.std.specs.List.{AllByRecursion as All}
+use Rattle.std.specs.List.{AllByRecursion}
 use Rattle.std.proofs.lemmas.Bool.{cond-true, cond-false, ne_eqb, eq-eqb}
 use Rattle.foundation.specs.Counting.{first}
 use Rattle.foundation.proofs.Firsts.{First, first-is}
@@ -60,7 +60,7 @@ module _ (b : Book) (n account amount : ℕ) where
       taken on = sym (cond-true _ _ _ has ∙ cond-true _ _ _ (eq-eqb account b.account same) ∙ cond-true _ _ _ on)
 
 -- ---- just one invoice has the number
-pub others_same : (n amount : ℕ) (vs : List Invoice) → All (λ u. n < u.number) vs → map (paid_on n amount) vs ≡ vs
+pub others_same : (n amount : ℕ) (vs : List Invoice) → AllByRecursion (λ u. n < u.number) vs → map (paid_on n amount) vs ≡ vs
 others_same n amount [] above = refl
 others_same n amount (v ∷ vs) above =
     ap (λ w. w ∷ map (paid_on n amount) vs) (cond-false _ _ _ (ne_eqb v.number n (λ e. omega (arith, above.0)))) ∙ ap (λ ws. v ∷ ws) (others_same n amount vs above.1)
@@ -70,14 +70,14 @@ number_at low high [] k l lt = absurd (omega arith)
 number_at low high (v ∷ vs) zero l lt = l.0
 number_at low high (v ∷ vs) (suc k) l lt = omega (arith, l.0, number_at (v.number + 1) high vs k l.2 (omega arith))
 
-pub all-later : (n : ℕ) (vs : List Invoice) → All (λ u. n + 1 ≤ u.number) vs → All (λ u. n < u.number) vs
+pub all-later : (n : ℕ) (vs : List Invoice) → AllByRecursion (λ u. n + 1 ≤ u.number) vs → AllByRecursion (λ u. n < u.number) vs
 all-later n [] a = tt
 all-later n (u ∷ vs) a = (omega (arith, a.0), all-later n vs a.1)
 
 pub paid-is : (low high n amount : ℕ) (vs : List Invoice) (k : ℕ) → Listed low high vs → k < length vs → (get_or vs k nothing).number ≡ n → set vs k (told (get_or vs k nothing) (Payment amount)) ≡ map (paid_on n amount) vs
 paid-is low high n amount [] k l lt e = absurd (omega arith)
 paid-is low high n amount (v ∷ vs) zero l lt e =
-    ap (λ ws. told v (Payment amount) ∷ ws) (sym (others_same n amount vs (subst (λ m. All (λ u. m < u.number) vs) e (all-later v.number vs (numbers-from (v.number + 1) (v.number + 1) high vs (omega arith) l.2)))))
+    ap (λ ws. told v (Payment amount) ∷ ws) (sym (others_same n amount vs (subst (λ m. AllByRecursion (λ u. m < u.number) vs) e (all-later v.number vs (numbers-from (v.number + 1) (v.number + 1) high vs (omega arith) l.2)))))
     ∙ ap (λ w. w ∷ map (paid_on n amount) vs) (sym (cond-true _ _ _ (eq-eqb v.number n e)))
 paid-is low high n amount (v ∷ vs) (suc k) l lt e =
     let later = number_at (v.number + 1) high vs k l.2 (omega arith) in

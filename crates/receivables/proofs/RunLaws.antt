@@ -1,6 +1,6 @@
 -- What a past-due run leaves is what its law says. Assumes nothing.
 use Rattle.std.proofs.Common.{◌≡◌, ℕ, zero, suc, ◌+◌, ◌-◌, ◌<◌, ◌≤◌, min, Bool, true, false, cond, not, eqb, ltb, ◌⊎◌, List, [], ◌∷◌, get_or, set, sum, filter, sym, refl, ap, ◌∙◌, inl, inr, arith}
-use Rattle.std.specs.List.{AllByRecursion as All}
+use Rattle.std.specs.List.{AllByRecursion}
 use Rattle.std.proofs.lemmas.List.Sums.{sum_by-cons}
 use Rattle.std.proofs.lemmas.Bool.{cases_lt, cond-true, cond-false, eq-eqb, ne_eqb, ltb-false}
 use Rattle.foundation.proofs.Firsts.{true-false}
@@ -196,16 +196,16 @@ module _ (past : Invoice → Bool) where
       go false t = cond-false _ _ _ t
 
   -- past due and still owed only where nothing is held any more
-  empty : (low high : ℕ) (vs : List Invoice) (hs : List ℕ) → Listed low high vs → All (λ w. past w ≡ true → get_or (helds past vs hs) w.position 0 ≡ 0) (filter unsettled (drawn_all past vs hs))
+  empty : (low high : ℕ) (vs : List Invoice) (hs : List ℕ) → Listed low high vs → AllByRecursion (λ w. past w ≡ true → get_or (helds past vs hs) w.position 0 ≡ 0) (filter unsettled (drawn_all past vs hs))
   empty low high [] hs l = tt
   empty low high (v ∷ vs) hs l = go (past v) refl (empty (v.number + 1) high vs (cond (past v) (held_after hs v) hs) l.2) where
-    go : (b : Bool) → past v ≡ b → All (λ w. past w ≡ true → get_or (helds past vs (cond b (held_after hs v) hs)) w.position 0 ≡ 0) (filter unsettled (drawn_all past vs (cond b (held_after hs v) hs)))
-        → All (λ w. past w ≡ true → get_or (helds past vs (cond b (held_after hs v) hs)) w.position 0 ≡ 0) (cond (unsettled (cond b (drawn_on hs v) v)) (cond b (drawn_on hs v) v ∷ filter unsettled (drawn_all past vs (cond b (held_after hs v) hs))) (filter unsettled (drawn_all past vs (cond b (held_after hs v) hs))))
+    go : (b : Bool) → past v ≡ b → AllByRecursion (λ w. past w ≡ true → get_or (helds past vs (cond b (held_after hs v) hs)) w.position 0 ≡ 0) (filter unsettled (drawn_all past vs (cond b (held_after hs v) hs)))
+        → AllByRecursion (λ w. past w ≡ true → get_or (helds past vs (cond b (held_after hs v) hs)) w.position 0 ≡ 0) (cond (unsettled (cond b (drawn_on hs v) v)) (cond b (drawn_on hs v) v ∷ filter unsettled (drawn_all past vs (cond b (held_after hs v) hs))) (filter unsettled (drawn_all past vs (cond b (held_after hs v) hs))))
     go false t later =
-        elim (unsettled v) as (λ b. All (λ w. past w ≡ true → get_or (helds past vs hs) w.position 0 ≡ 0) (cond b (v ∷ filter unsettled (drawn_all past vs hs)) (filter unsettled (drawn_all past vs hs))))
+        elim (unsettled v) as (λ b. AllByRecursion (λ w. past w ≡ true → get_or (helds past vs hs) w.position 0 ≡ 0) (cond b (v ∷ filter unsettled (drawn_all past vs hs)) (filter unsettled (drawn_all past vs hs))))
         [ true ↦ ((λ u. absurd (true-false (past v) u t)), later) | false ↦ later ]
     go true t later = here (unsettled (drawn_on hs v)) refl where
-      here : (b : Bool) → unsettled (drawn_on hs v) ≡ b → All (λ w. past w ≡ true → get_or (helds past vs (held_after hs v)) w.position 0 ≡ 0) (cond b (drawn_on hs v ∷ filter unsettled (drawn_all past vs (held_after hs v))) (filter unsettled (drawn_all past vs (held_after hs v))))
+      here : (b : Bool) → unsettled (drawn_on hs v) ≡ b → AllByRecursion (λ w. past w ≡ true → get_or (helds past vs (held_after hs v)) w.position 0 ≡ 0) (cond b (drawn_on hs v ∷ filter unsettled (drawn_all past vs (held_after hs v))) (filter unsettled (drawn_all past vs (held_after hs v))))
       here false u = later
       here true u =
           let s = told-fine (told v (Draw (paid hs v))) PastDue (told-fine v (Draw (paid hs v)) (λ _. l.1)) u in
@@ -214,18 +214,18 @@ module _ (past : Invoice → Bool) where
           ((λ _. ap (λ j. get_or (helds past vs (held_after hs v)) j 0) (drawn-position hs v) ∙ none), later)
 
   -- an invoice that is not past due keeps its balance
-  skip : (w : Invoice) (rest vs : List Invoice) → All (λ u. w.number < u.number) vs → All (λ u. past u ≡ false → balance_of rest u.number ≡ u.balance) vs → All (λ u. past u ≡ false → balance_of (cond (unsettled w) (w ∷ rest) rest) u.number ≡ u.balance) vs
+  skip : (w : Invoice) (rest vs : List Invoice) → AllByRecursion (λ u. w.number < u.number) vs → AllByRecursion (λ u. past u ≡ false → balance_of rest u.number ≡ u.balance) vs → AllByRecursion (λ u. past u ≡ false → balance_of (cond (unsettled w) (w ∷ rest) rest) u.number ≡ u.balance) vs
   skip w rest [] above all = tt
   skip w rest (u ∷ vs) above all = (λ off. passed u above.0 ∙ all.0 off, skip w rest vs above.1 all.1) where
     passed : (u : Invoice) → w.number < u.number → balance_of (cond (unsettled w) (w ∷ rest) rest) u.number ≡ balance_of rest u.number
     passed u lt = elim (unsettled w) as (λ b. balance_of (cond b (w ∷ rest) rest) u.number ≡ balance_of rest u.number)
         [ true ↦ cond-false _ _ _ (ne_eqb w.number u.number (λ e. omega arith)) | false ↦ refl ]
 
-  all_above : (n m : ℕ) (vs : List Invoice) → n ≡ m → All (λ u. m + 1 ≤ u.number) vs → All (λ u. n < u.number) vs
+  all_above : (n m : ℕ) (vs : List Invoice) → n ≡ m → AllByRecursion (λ u. m + 1 ≤ u.number) vs → AllByRecursion (λ u. n < u.number) vs
   all_above n m [] e a = tt
   all_above n m (u ∷ vs) e a = (omega (arith, a.0), all_above n m vs e a.1)
 
-  spared : (low high : ℕ) (vs : List Invoice) (hs : List ℕ) → Listed low high vs → All (λ v. past v ≡ false → balance_of (filter unsettled (drawn_all past vs hs)) v.number ≡ v.balance) vs
+  spared : (low high : ℕ) (vs : List Invoice) (hs : List ℕ) → Listed low high vs → AllByRecursion (λ v. past v ≡ false → balance_of (filter unsettled (drawn_all past vs hs)) v.number ≡ v.balance) vs
   spared low high [] hs l = tt
   spared low high (v ∷ vs) hs l =
       let w : Invoice = cond (past v) (drawn_on hs v) v in

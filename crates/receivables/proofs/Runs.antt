@@ -8,7 +8,7 @@ use Rattle.receivables.specs.declared.invoice.Invoice.{Invoice}
 use Rattle.receivables.specs.declared.invoice.Event.{Event}
 use Rattle.receivables.specs.declared.invoice.Event.TheVariants.{Payment, Draw, PastDue}
 use Rattle.receivables.specs.Invoices.{told, told_in, nothing}
-use Rattle.std.specs.List.{AllByRecursion as All}
+use Rattle.std.specs.List.{AllByRecursion}
 use Rattle.receivables.specs.Run.{paid, held_after, drawn_on, helds, drawn_all, drawn, owed}
 
 pub record Going (past : Invoice → Bool) (vs : List Invoice) (hs : List ℕ) (i : ℕ) (ws : List Invoice) (ks : List ℕ) (d o : ℕ) : Type 0 where
@@ -86,10 +86,10 @@ module _ {past : Invoice → Bool} {vs : List Invoice} {hs : List ℕ} {i : ℕ}
   pub early-turn : past (get_or ws i nothing) ≡ false → Going past vs hs (i + 1) (set ws i (get_or ws i nothing)) ks d o
   early-turn t = rw (set-get_or ws i nothing) (going-early s (get_or ws i nothing) l (get_or_default ws i nothing _ l) t)
 
-  pub next-all : (P : Invoice → Type 0) → All P vs → P (get_or ws i nothing)
+  pub next-all : (P : Invoice → Type 0) → AllByRecursion P vs → P (get_or ws i nothing)
   next-all P a =
       let n : drop i vs ≡ get_or ws i nothing ∷ drop (i + 1) vs = next-is s (get_or ws i nothing) l (get_or_default ws i nothing _ l) in
-      (subst (All P) n (All-drop P i vs a)).0
+      (subst (AllByRecursion P) n (All-drop P i vs a)).0
 
 -- no event raises a balance
 pub told-in-less : (t : State) (v : Invoice) (e : Event) → (told_in t v e).balance ≤ v.balance
@@ -107,14 +107,14 @@ drawn-on-less hs v =
     omega (arith, told-in-less v.state v (Draw (paid hs v)), told-in-less w.state w PastDue)
 
 module _ (past : Invoice → Bool) where
-  pub drawn-small : (vs : List Invoice) (hs : List ℕ) → All (λ v. v.balance ≤ 4294967295) vs → drawn past vs hs ≤ 4294967295 * length vs
+  pub drawn-small : (vs : List Invoice) (hs : List ℕ) → AllByRecursion (λ v. v.balance ≤ 4294967295) vs → drawn past vs hs ≤ 4294967295 * length vs
   drawn-small [] hs a = omega arith
   drawn-small (v ∷ vs) hs a =
       let later = drawn-small vs (cond (past v) (held_after hs v) hs) a.1 in
       let here : cond (past v) (paid hs v) 0 ≤ 4294967295 = (elim (past v) as (λ b. cond b (paid hs v) 0 ≤ 4294967295) [ true ↦ omega (arith, a.0) | false ↦ omega arith ]) in
       omega arith
 
-  pub owed_small : (vs : List Invoice) (hs : List ℕ) → All (λ v. v.balance ≤ 4294967295) vs → owed past vs hs ≤ 4294967295 * length vs
+  pub owed_small : (vs : List Invoice) (hs : List ℕ) → AllByRecursion (λ v. v.balance ≤ 4294967295) vs → owed past vs hs ≤ 4294967295 * length vs
   owed_small [] hs a = omega arith
   owed_small (v ∷ vs) hs a =
       let later = owed_small vs (cond (past v) (held_after hs v) hs) a.1 in
@@ -122,7 +122,7 @@ module _ (past : Invoice → Bool) where
       omega arith
 
 -- what was drawn and is owed so far is no more than the whole run gives, and that fits 64 bits
-module _ {past : Invoice → Bool} {vs : List Invoice} {hs : List ℕ} {i : ℕ} {ws : List Invoice} {ks : List ℕ} {d o : ℕ} (s : Going past vs hs i ws ks d o) (few : length vs ≤ 4294967295) (a : All (λ v. v.balance ≤ 4294967295) vs) where
+module _ {past : Invoice → Bool} {vs : List Invoice} {hs : List ℕ} {i : ℕ} {ws : List Invoice} {ks : List ℕ} {d o : ℕ} (s : Going past vs hs i ws ks d o) (few : length vs ≤ 4294967295) (a : AllByRecursion (λ v. v.balance ≤ 4294967295) vs) where
   most : 4294967295 * length vs ≤ 4294967295 * 4294967295
   most = mul-le-mul_left 4294967295 few
 

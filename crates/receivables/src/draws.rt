@@ -1,6 +1,6 @@
 // Draws on a row of instruments for past-due invoices.
 ghost use Rattle.std.specs.Prelude.{◌≡◌, ℕ, ◌-◌, ◌*◌, ◌≤◌, min, map, length, ◌≢◌, slice_index, slice_index_or, slice_set};
-ghost use Rattle.std.specs.List.{AllByRecursion as All};
+ghost use Rattle.std.specs.List.{AllByRecursion};
 ghost use Rattle.calendar.specs.Moments.{when};
 ghost use Rattle.security.specs.declared.means.Means.{Means};
 ghost use Rattle.receivables.specs.Invoices.{is_past_due};
@@ -55,7 +55,7 @@ pub(crate) fn draw_all<I: Instrument + Copy>(
     row: &mut [I],
 ) -> Outcome
     requires few { length list.old ≤ 4294967295 }
-    requires small { All (λ v. v.balance ≤ 4294967295) list.old }
+    requires small { AllByRecursion (λ v. v.balance ≤ 4294967295) list.old }
     ensures outcome { result ≡ outcome (is_past_due (when at)) list.old (map I.held row.old) }
     ensures list { list.new ≡ drawn_all (is_past_due (when at)) list.old (map I.held row.old) }
     ensures helds { map I.held row.new ≡ helds (is_past_due (when at)) list.old (map I.held row.old) }

@@ -1,6 +1,6 @@
 // Making receivables, looking into them, and paying.
 ghost use Rattle.std.specs.Prelude.{◌≡◌, ◌≤◌, length, IfOk, vec_capacity, filter, nat_eq, slice_index_or};
-ghost use Rattle.std.specs.List.{AllByRecursion as All};
+ghost use Rattle.std.specs.List.{AllByRecursion};
 ghost use Rattle.foundation.specs.Counting.{first};
 ghost use Rattle.foundation.specs.Questions.{after};
 ghost use Rattle.receivables.specs.Books.{book_of, new_book};
@@ -43,7 +43,7 @@ fn place_of(list: &[Invoice], number: u32) -> Option<usize>
 // What a Counter-Party owes on the invoices of a list.
 fn owed_in(list: &[Invoice], counter_party: u16) -> u64
     requires few { length list.now ≤ 4294967295 }
-    requires small { All (λ v. v.balance ≤ 4294967295) list.now }
+    requires small { AllByRecursion (λ v. v.balance ≤ 4294967295) list.now }
     ensures { result ≡ owed_by list.now counter_party }
 {
     let mut owed = 0;

@@ -1,6 +1,6 @@
 use Rattle.std.proofs.Common.{◌≡◌, ℕ, ◌≤◌, Bool, true, List, map, length, vec_items, vec_len, vec_capacity, filter, Vec, sym, ap, ◌∙◌, subst, arith}
 use Rattle.std.specs.Vec.{with_items}
-use Rattle.std.specs.List.{AllByRecursion as All}
+use Rattle.std.specs.List.{AllByRecursion}
 use Rattle.std.proofs.lemmas.List.{with_items_is}
 use Rattle.calendar.specs.Moments.{when}
 use Rattle.receivables.specs.declared.invoice.Invoice.{Invoice}
@@ -19,7 +19,7 @@ draw_all-outcome-requires g c =
     let l = lists 1 r.next (vec_items r.list) r.sound in
     record {
       few = omega (arith, r.numbered, c.as_mut_slice.ensures.len, r.list.ok.0, listed-long 1 r.next (vec_items r.list) l);
-      small = subst (All (λ v. v.balance ≤ 4294967295)) (sym c.as_mut_slice.ensures.value) (all_small 1 r.next (vec_items r.list) l);
+      small = subst (AllByRecursion (λ v. v.balance ≤ 4294967295)) (sym c.as_mut_slice.ensures.value) (all_small 1 r.next (vec_items r.list) l);
     }
 
 -- the invoices after the run, with the settled ones out: the list lent was vs, and came back as ws
