@@ -47,7 +47,7 @@ counted_is s d p e y here enters h =
     ap (λ x. quarters_at x y) here ∙ unit-at d y
     ∙ ap (quarters (facts d).unit) (h ∙ ap (λ x. entered x (kept_at s p)) (sym enters) ∙ ap (λ x. entered (facts d).entry (kept_at s x)) here ∙ ap (entered (facts d).entry) (sym (order-sum s d)))
 
--- the sums in k_w over 15 minutes enter as they are
+-- the sums in kW over 15 minutes enter as they are
 pub interval-plain : (d : Determinant) (k : ℕ) → Interval k ≡ place d → (facts d).entry ≡ plain
 interval-plain Rtmg k e = refl
 interval-plain Rtdcimp k e = refl

@@ -1,4 +1,4 @@
--- The activity of a Counter-Party: the largest of its nine group values, in quarters of a kwh. Assumes nothing.
+-- The activity of a Counter-Party: the largest of its nine group values, in quarters of a kWh. Assumes nothing.
 use Rattle.std.specs.Prelude.{ℕ, zero, suc, ◌-◌, Bool, cond, ◌&&◌, List, [], ◌∷◌, map, length, ℤ, pos, ◌+ℤ◌, fold, filter, ◌==◌, nat_eq, nat_lt, slice_index, slice_index_or, unsigned_abs}
 use Rattle.std.specs.List.{range_with_len}
 use Rattle.std.specs.Int.{int_max}

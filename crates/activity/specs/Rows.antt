@@ -8,7 +8,7 @@ use Rattle.activity.specs.declared.row.place.Place.TheVariants.{Energy, Interval
 use Rattle.records.specs.Determinants.{determinants}
 use Rattle.activity.specs.Sums.{Sums}
 
--- where a determinant's sum is kept: among the thirteen in kwh, or among the three in k_w over 15 minutes
+-- where a determinant's sum is kept: among the thirteen in kWh, or among the three in kW over 15 minutes
 abbrev pub place : Determinant → Place
 place Rtmg = Energy 0
 place Rtdcimp = Interval 0

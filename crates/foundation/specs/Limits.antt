@@ -21,7 +21,7 @@ most_sum = 2000000000
 abbrev pub most_amount : ℕ
 most_amount = 1000000000
 
--- all activities of a month together, in quarters of a kwh
+-- all activities of a month together, in quarters of a kWh
 abbrev pub most_activity : ℕ
 most_activity = 8000000000
 

@@ -1,4 +1,4 @@
--- What a call of the code asks. Assumes nothing.
+-- What a call of the code asks and answers, in the words of requests and replies. Assumes nothing.
 use Rattle.std.specs.Prelude.{Result}
 use Rattle.calendar.specs.Meaning.{CalendarMeaning}
 use Rattle.activity.specs.Months.{closed_month}
@@ -20,7 +20,7 @@ request_of says (Fund p m n) = fund p m n
 request_of says (PastDue day minute) = run day minute
 request_of says (Report p) = report p
 
--- what a call of the code answers, as a reply
+-- what an accepted call of the code answers
 abbrev pub answer_of : Answered → Answer
 answer_of Done = done
 answer_of (Issued b) = issued b
@@ -29,5 +29,6 @@ answer_of (Holds n) = holds n
 answer_of (Drew o) = drew o
 answer_of (Tells r) = tells r
 
+-- its reply, accepted or refused
 abbrev pub reply_of : Result Answered Fault → Reply
 reply_of r = replied answer_of r

@@ -1,5 +1,5 @@
 -- What a call leaves at each place of the row. Assumes nothing.
-use Rattle.std.specs.Prelude.{◌≡◌, ℕ, ◌≤◌, Bool, true, List, get_or, is_err, ◌≢◌, slice_index_or}
+use Rattle.std.specs.Prelude.{◌≡◌, ℕ, ◌≤◌, Bool, true, List, is_err, ◌≢◌, slice_index_or}
 use Rattle.security.specs.declared.means.Means.{Means}
 use Rattle.receivables.specs.declared.invoice.Invoice.{Invoice}
 use Rattle.receivables.specs.Invoices.{is_past_due}
@@ -17,14 +17,14 @@ state_of held room l row = record { ledger = model_of l; row = row_of held room 
 -- a funding at place k: the other places stand, no room rises, and nothing changes where it is refused
 pub record FundedAt (k : ℕ) (r : Reply) (row later : List Security) : Type 0 where
   pub others : (j : ℕ) → (j ≢ k) → slice_index_or later j no_security ≡ slice_index_or row j no_security
-  pub rooms : (j : ℕ) (m : Means) → (get_or later j no_security).room m ≤ (get_or row j no_security).room m
+  pub rooms : (j : ℕ) (m : Means) → (slice_index_or later j no_security).room m ≤ (slice_index_or row j no_security).room m
   pub refused : is_err r ≡ true → later ≡ row
 
 -- a run that finds these invoices: a place that no past-due invoice draws on stands, no room falls, and nothing
 -- changes where it is refused
 pub record DrawnFrom (past : Invoice → Bool) (vs : List Invoice) (r : Reply) (row later : List Security) : Type 0 where
   pub others : (j : ℕ) → Untouched past j vs → slice_index_or later j no_security ≡ slice_index_or row j no_security
-  pub rooms : (j : ℕ) (m : Means) → (get_or row j no_security).room m ≤ (get_or later j no_security).room m
+  pub rooms : (j : ℕ) (m : Means) → (slice_index_or row j no_security).room m ≤ (slice_index_or later j no_security).room m
   pub refused : is_err r ≡ true → later ≡ row
 
 abbrev pub PlacesKept : State → Request → Reply → State → Type 0

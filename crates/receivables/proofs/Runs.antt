@@ -77,7 +77,7 @@ module _ {past : Invoice → Bool} {vs : List Invoice} {hs : List ℕ} where
         )
 
 module _ {past : Invoice → Bool} {vs : List Invoice} {hs : List ℕ} {i : ℕ} {ws : List Invoice} {ks : List ℕ} {d o : ℕ} (s : Going past vs hs i ws ks d o) (l : i < length ws) where
-  -- the turn of a past-due invoice, by what the code holds drawn_all it
+  -- the turn of a past-due invoice, by what the code holds of it
   pub late-turn : past (get_or ws i nothing) ≡ true → (w : Invoice) (qs : List ℕ) (p : ℕ) → w ≡ drawn_on ks (get_or ws i nothing) → qs ≡ held_after ks (get_or ws i nothing) → p ≡ paid ks (get_or ws i nothing)
       → Going past vs hs (i + 1) (set ws i w) qs (d + p) (o + w.balance)
   late-turn t w qs p a b c = rw (a, b, c) (going-late s (get_or ws i nothing) l (get_or_default ws i nothing _ l) t)

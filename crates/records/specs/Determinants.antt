@@ -68,7 +68,7 @@ entered plain z = z
 entered clipped z = int_max (pos 0) z
 entered reversed z = neg_ℤ z
 
--- a thousandth of a MWh, or of a MW over an hour, is four quarters of a kwh; of a MW over 15 minutes it is one
+-- a thousandth of a MWh, or of a MW over an hour, is four quarters of a kWh; of a MW over 15 minutes it is one
 abbrev pub quarters : unit.Unit → ℤ → ℤ
 quarters MegawattHour z = pos 4 *ℤ z
 quarters MegawattOverHour z = pos 4 *ℤ z

@@ -6,7 +6,7 @@ use Rattle.receivables.proofs.draws.draw_all.Given as given
 use Rattle.receivables.proofs.draws.draw_all.Goals as goal
 use Rattle.receivables.proofs.draws.draw_all.Goals.{then-is_past_due, else-is_past_due}
 
--- the run drawn_all the turn of a past-due invoice
+-- a run's turn at a past-due invoice
 turn : (g : given.Over) (c : goal.After-row-1 g)
     → Going (is_past_due (when c.args.at)) c.args.list.now (map g.I.Instrument.held c.args.row.now) (c.loop-invoice.invoice-index + 1)
     (set c.loop-invoice.list c.loop-invoice.invoice-index c.collect-drawn.new.invoice) (map g.I.Instrument.held c.collect-drawn.new.row)
