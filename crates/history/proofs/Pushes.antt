@@ -8,6 +8,7 @@ use Rattle.history.specs.Steps.{State, Step}
 use Rattle.history.specs.Histories.{Moment, Linked, History, begin}
 use Rattle.history.specs.Places.{PlacesKept}
 use Rattle.history.specs.Whole.{WholeHistory}
+use Rattle.history.proofs.Sound.{all_append}
 use Rattle.history.proofs.Laws.{law-of, sound-begin}
 use Rattle.history.proofs.OnlyPastDue.{drawn-all}
 
@@ -29,19 +30,19 @@ history-push account row t u q r h step =
       law = law-of account row u _ linked;
     }
 
+-- the first i requests and the next one are the first i + 1
+asked-more : {X : Type 0} (ask : X → Request) (calls : List X) (i : ℕ) (c : X) → i < length calls → c ≡ get_or calls i c → map ask (take (i + 1) calls) ≡ map ask (take i calls) ++ ask c ∷ []
+asked-more ask calls i c within read =
+    let grown = ap (λ x. take i calls ++ x ∷ []) read ∙ sym (take_more calls i c within) in
+    rw (← grown) (map_push ask (take i calls) c)
+
 module _ {X : Type 0} (ask : X → Request) where
   pub one_more : (account : ℕ) (calls : List X) (rs rs' : List Reply) (row : List Security) (t u : State) (i : ℕ) (c : X) (r : Reply) → i < length calls → c ≡ get_or calls i c → rs' ≡ rs ++ r ∷ [] → History account (map ask (take i calls)) rs row t → Step t (ask c) r u
       → History account (map ask (take (i + 1) calls)) rs' row u
   one_more account calls rs rs' row t u i c r within read said h step =
-      let asked = map_push ask (take i calls) c in
-      let grown = ap (λ x. take i calls ++ x ∷ []) read ∙ sym (take_more calls i c within) in
-      rw (← grown, asked, said) (history-push account row t u (ask c) r h step)
+      rw (asked-more ask calls i c within read, said) (history-push account row t u (ask c) r h step)
 
 -- ---- the same of a history with what else holds of its calls
-all-push : {X : Type 0} (P : X → Type 0) (xs : List X) (x : X) → AllByRecursion P xs → P x → AllByRecursion P (xs ++ x ∷ [])
-all-push P [] x h here = (here, tt)
-all-push P (y ∷ ys) x h here = (h.0, all-push P ys x h.1 here)
-
 pub whole-none : (account : ℕ) (row : List Security) → WholeHistory account [] [] row (begin account row)
 unfolding history-none
 whole-none account row = record { history = history-none account row; places = tt; drawn = tt }
@@ -53,7 +54,7 @@ whole-push account row t u q r w step kept =
     let h = history-push account row t u q r w.history step in
     record {
       history = h;
-      places = all-push (λ m. PlacesKept m.before m.request m.reply m.next) w.history.moments _ w.places kept;
+      places = all_append (λ m. PlacesKept m.before m.request m.reply m.next) w.history.moments _ w.places (kept, tt);
       drawn = drawn-all (begin account row) u h.moments h.linked (sound-begin account row);
     }
 
@@ -62,6 +63,4 @@ module _ {X Y : Type 0} (ask : X → Request) (say : Y → Reply) where
       → WholeHistory account (map ask (take i calls)) (map say rs) row t → Step t (ask c) (say r) u → PlacesKept t (ask c) (say r) u
       → WholeHistory account (map ask (take (i + 1) calls)) (map say rs') row u
   whole_more account calls rs rs' row t u i c r within read said h step kept =
-      let asked = map_push ask (take i calls) c in
-      let grown = ap (λ x. take i calls ++ x ∷ []) read ∙ sym (take_more calls i c within) in
-      rw (← grown, asked, said, map_push say rs r) (whole-push account row t u (ask c) (say r) h step kept)
+      rw (asked-more ask calls i c within read, said, map_push say rs r) (whole-push account row t u (ask c) (say r) h step kept)
