@@ -2,6 +2,7 @@
 use Rattle.std.proofs.Common.{◌≡◌, ℕ, ◌+◌, ◌≤◌, true, false, eqb, ℤ, pos, negsuc, ◌+ℤ◌, ◌*ℤ◌, nat_abs, ◌≤ℤ◌, sym, refl, ap, ◌∙◌, arith}
 use lib.Signed.{non_neg}
 use Rattle.std.specs.Int.{int_max}
+use Rattle.std.proofs.Math.IntN.{+ℤ_idr}
 use Rattle.std.proofs.lemmas.Int.{ints, clamps}
 use Rattle.records.specs.declared.determinant.Determinant.{Determinant}
 use Rattle.records.specs.declared.determinant.Determinant.TheVariants.{Rtmg, Rtdcimp, Rtamlexsecm, Mebl, Rtqqes, Rtqqep, Daes, Daep, Rtobl, Rtobllo, Opt, Daobl, Opts, Obls, Optp, Oblp}
@@ -21,15 +22,18 @@ use Rattle.activity.proofs.Adds.{signed_at}
 -- ---- one determinant
 abbrev pub quarters_at : Place → ℤ → ℤ
 quarters_at (Energy k) z = pos 4 *ℤ z
-quarters_at (Interval k) z = z
+quarters_at (Interval k) z = pos 1 *ℤ z
+
+once : (z : ℤ) → pos 1 *ℤ z ≡ z
+once z = omega (arith, ints)
 
 unit-at : (d : Determinant) (z : ℤ) → quarters_at (place d) z ≡ quarters (facts d).unit z
 unit-at Rtmg z = refl
-unit-at Rtdcimp z = refl
+unit-at Rtdcimp z = once z
 unit-at Rtamlexsecm z = refl
 unit-at Mebl z = refl
-unit-at Rtqqes z = refl
-unit-at Rtqqep z = refl
+unit-at Rtqqes z = once z
+unit-at Rtqqep z = once z
 unit-at Daes z = refl
 unit-at Daep z = refl
 unit-at Rtobl z = refl
@@ -89,27 +93,23 @@ pub non_neg-le : (z : ℤ) → non_neg z ≡ true → pos 0 ≤ℤ z
 non_neg-le (pos n) e = omega (arith, ints)
 non_neg-le (negsuc n) e = let x : ◌≡◌ {A = ℕ} 0 1 = cc in absurd (omega arith)
 
-small-four : (y r : ℤ) → r ≡ pos 4 *ℤ y → nat_abs y ≤ 2000000000 → nat_abs r ≤ 8000000000
-small-four y r e h = omega (arith, ints)
+small-at : (p : Place) (y r : ℤ) → r ≡ quarters_at p y → nat_abs y ≤ 2000000000 → nat_abs r ≤ 8000000000
+small-at (Energy k) y r e h = omega (arith, ints)
+small-at (Interval k) y r e h = omega (arith, ints)
 
-natural-four : (y r : ℤ) → r ≡ pos 4 *ℤ y → pos 0 ≤ℤ y → pos 0 ≤ℤ r
-natural-four y r e h = omega (arith, ints)
+natural-at : (p : Place) (y r : ℤ) → r ≡ quarters_at p y → pos 0 ≤ℤ y → pos 0 ≤ℤ r
+natural-at (Energy k) y r e h = omega (arith, ints)
+natural-at (Interval k) y r e h = omega (arith, ints)
 
 -- a sum that enters as y
-module _ (s : Kept) (d : Determinant) (k : ℕ) (e : Entry) (y r : ℤ) (enters : (facts d).entry ≡ e) (small : nat_abs y ≤ 2000000000) where
-  pub energy-counts : {Natural : Type 0} → Energy k ≡ place d → y ≡ entered e (kept_at s (Energy k)) → r ≡ pos 4 *ℤ y → (Natural → pos 0 ≤ℤ y) → Counts (counted (in_order s) d) 8000000000 Natural r
-  energy-counts here h told natural = record { is = told ∙ counted_is s d (Energy k) e y here enters h; small = small-four y r told small; natural = λ n. natural-four y r told (natural n) }
-
-  pub interval-counts : {Natural : Type 0} → Interval k ≡ place d → y ≡ entered e (kept_at s (Interval k)) → r ≡ y → (Natural → pos 0 ≤ℤ y) → Counts (counted (in_order s) d) 8000000000 Natural r
-  interval-counts here h told natural = record { is = told ∙ counted_is s d (Interval k) e y here enters h; small = rw told (omega (arith, small)); natural = λ n. rw told (natural n) }
+pub sum-counts : {Natural : Type 0} (s : Kept) (p : Place) (d : Determinant) (e : Entry) (y r : ℤ) → p ≡ place d → (facts d).entry ≡ e → nat_abs y ≤ 2000000000
+    → y ≡ entered e (kept_at s p) → r ≡ quarters_at p y → (Natural → pos 0 ≤ℤ y) → Counts (counted (in_order s) d) 8000000000 Natural r
+sum-counts s p d e y r here enters small h told natural = record { is = told ∙ counted_is s d p e y here enters h; small = small-at p y r told small; natural = λ n. natural-at p y r told (natural n) }
 
 pub clipped-natural : (z y : ℤ) → y ≡ int_max (pos 0) z → pos 0 ≤ℤ y
 clipped-natural z y e = omega (arith, ints, clamps)
 
 -- ---- several determinants
-one : (a : ℤ) → a +ℤ pos 0 ≡ a
-one a = omega (arith, ints)
-
 two : (a b : ℤ) → a +ℤ (b +ℤ pos 0) ≡ a +ℤ b
 two a b = omega (arith, ints)
 
@@ -119,7 +119,7 @@ four a b c d = omega (arith, ints)
 small-sum : (n : ℕ) (a b r : ℤ) → r ≡ a +ℤ b → nat_abs a ≤ n → nat_abs b ≤ n → nat_abs r ≤ n + n
 small-sum n a b r e h k = omega (arith, ints)
 
-natural-sum : (a b r : ℤ) → r ≡ a +ℤ b → pos 0 ≤ℤ a → pos 0 ≤ℤ b → pos 0 ≤ℤ r
+pub natural-sum : (a b r : ℤ) → r ≡ a +ℤ b → pos 0 ≤ℤ a → pos 0 ≤ℤ b → pos 0 ≤ℤ r
 natural-sum a b r e h k = omega (arith, ints)
 
 both : {x y a b r : ℤ} {P Q : Type 0} (n : ℕ) → Counts x n P a → Counts y n Q b → r ≡ a +ℤ b → Counts (x +ℤ y) (n + n) (P × Q) r
@@ -164,19 +164,19 @@ load s = two (counted s Rtamlexsecm) (counted s Mebl)
 
 pub sales : (s : Sums) → row_value Sales s ≡ counted s Rtqqes
 unfolding row_value
-sales s = one (counted s Rtqqes)
+sales s = +ℤ_idr (counted s Rtqqes)
 
 pub purchases : (s : Sums) → row_value Purchases s ≡ counted s Rtqqep
 unfolding row_value
-purchases s = one (counted s Rtqqep)
+purchases s = +ℤ_idr (counted s Rtqqep)
 
 pub day-ahead-sales : (s : Sums) → row_value DayAheadSales s ≡ counted s Daes
 unfolding row_value
-day-ahead-sales s = one (counted s Daes)
+day-ahead-sales s = +ℤ_idr (counted s Daes)
 
 pub day-ahead-purchases : (s : Sums) → row_value DayAheadPurchases s ≡ counted s Daep
 unfolding row_value
-day-ahead-purchases s = one (counted s Daep)
+day-ahead-purchases s = +ℤ_idr (counted s Daep)
 
 pub obligations : (s : Sums) → row_value RealTimeObligations s ≡ counted s Rtobl +ℤ counted s Rtobllo
 unfolding row_value

@@ -1,18 +1,21 @@
 -- What the three units hold, and when a sum may be raised. Assumes nothing.
-use Rattle.std.specs.Prelude.{Bool, [], ◌∷◌, ℤ, ◌+ℤ◌, Result, nat_le, unsigned_abs}
+use Rattle.std.specs.Prelude.{ℕ, Bool, [], ◌∷◌, ℤ, ◌+ℤ◌, Result, nat_le, unsigned_abs}
 use Rattle.foundation.specs.Limits.{most_sum}
 use Rattle.foundation.specs.Questions.{asks, verdict}
 use Rattle.records.specs.declared.fault.Fault.{Fault}
 use Rattle.records.specs.declared.fault.Fault.TheVariants as fault
-use Rattle.activity.specs.declared.units.KilowattHours.{KilowattHours}
-use Rattle.activity.specs.declared.units.KilowattQuarterHours.{KilowattQuarterHours}
+use Rattle.activity.specs.declared.units.Sum.{Sum}
 use Rattle.activity.specs.declared.units.Quarters.{Quarters}
 
-abbrev pub kwh : KilowattHours → ℤ
-kwh e = e.sum
+-- a sum, whatever its unit
+abbrev pub sum_in : {n : ℕ} → Sum n → ℤ
+sum_in s = s.sum
 
-abbrev pub kw_quarter_hours : KilowattQuarterHours → ℤ
-kw_quarter_hours i = i.sum
+abbrev pub kwh : Sum 4 → ℤ
+kwh e = sum_in e
+
+abbrev pub kw_quarter_hours : Sum 1 → ℤ
+kw_quarter_hours i = sum_in i
 
 abbrev pub quarters_in : Quarters → ℤ
 quarters_in q = q.count

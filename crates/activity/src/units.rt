@@ -3,19 +3,19 @@ ghost use Rattle.std.specs.Prelude.{◌≤◌, unsigned_abs};
 
 mod calls;
 
+// A sum of a unit that is so many quarters of a kWh.
 #[derive(Clone, Copy, PartialEq)]
-pub struct KilowattHours {
+pub struct Sum<const QUARTERS: u8> {
     sum: i64,
     ghost within: { unsigned_abs sum ≤ 2000000000 },
 }
 
-#[derive(Clone, Copy, PartialEq)]
-pub struct KilowattQuarterHours {
-    sum: i64,
-    ghost within: { unsigned_abs sum ≤ 2000000000 },
-}
+pub(crate) type KilowattHours = Sum<4>;
 
-#[derive(Clone, Copy)]
+// In kW over 15 minutes.
+pub(crate) type KilowattQuarterHours = Sum<1>;
+
+#[derive(Clone, Copy, PartialEq, Eq, PartialOrd, Ord)]
 pub struct Quarters {
     count: i64,
 }

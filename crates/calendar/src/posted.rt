@@ -22,15 +22,13 @@ impl<'a> Posted<'a> {
 fn day_bits(first: u16, row: &[u8], day: u16) -> u8
     ensures { result ≡ day_bits first row.now day }
 {
-    if day < first {
+    let Some(place) = day.checked_sub(first) else {
         return 0;
-    }
-    let place = day - first;
-    let at = (place / 4) as usize;
-    if at >= row.len() {
+    };
+    let Some(byte) = row.get(usize::from(place / 4)) else {
         return 0;
-    }
-    (row[at] >> (place % 4 * 2)) % 4
+    };
+    (*byte >> (place % 4 * 2)) % 4
 }
 
 impl<'a> Calendar for Posted<'a> {

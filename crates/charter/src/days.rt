@@ -12,9 +12,7 @@ fn length_of(month: u16) -> u16 {
 
 // The first day of a month.
 pub(crate) fn first_day(month: u16) -> u16 {
-    let mut day: u16 = 0;
-    for earlier in 0..month {
-        day = day.saturating_add(length_of(earlier));
-    }
-    day
+    (0..month)
+        .map(length_of)
+        .fold(0, |day: u16, length| day.saturating_add(length))
 }

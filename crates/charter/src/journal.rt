@@ -3,6 +3,7 @@ use crate::parties::COUNTER_PARTIES;
 use crate::plan::{Planned, Step};
 use history::Answer;
 use ledger::{Fault, Report};
+use std::alloc::{AllocError, Global};
 
 type Reply = Result<Answer, Fault>;
 
@@ -15,7 +16,7 @@ pub(crate) struct Totals {
     pub(crate) funded: u64,
     pub(crate) drawn: u64,
     pub(crate) refused: u64,
-    due_day: u16,
+    due_day: Option<u16>,
 }
 
 impl Totals {
@@ -27,13 +28,13 @@ impl Totals {
             funded: 0,
             drawn: 0,
             refused: 0,
-            due_day: 0,
+            due_day: None,
         }
     }
 
     fn add_payment(&mut self, step: Step) {
         self.paid = self.paid.saturating_add(step.cents());
-        if step.is_paid_after(self.due_day) {
+        if self.due_day.is_some_and(|day| step.is_paid_after(day)) {
             self.paid_late = self.paid_late.saturating_add(step.cents());
         }
     }
@@ -42,7 +43,7 @@ impl Totals {
         match reply {
             Ok(Answer::Issued(bill)) => {
                 self.billed = self.billed.saturating_add(step.cents());
-                self.due_day = bill.due_day;
+                self.due_day = Some(bill.due_day);
             }
             Ok(Answer::Left(_)) => self.add_payment(step),
             Ok(Answer::Holds(_)) => self.funded = self.funded.saturating_add(step.cents()),
@@ -99,20 +100,54 @@ impl Account {
     }
 }
 
-// The steps, and the reply to each.
+// A step, and the reply to it.
 #[derive(Clone, Copy)]
-pub(crate) struct Journal<'a> {
-    pub(crate) steps: &'a [Planned],
-    pub(crate) replies: &'a [Reply],
+pub(crate) struct Entry {
+    planned: Planned,
+    reply: Reply,
 }
 
-impl Journal<'_> {
+// What the runs of an entry drew, where it is a run at a minute of the day.
+fn drawn_by(entry: &Entry, at: u16) -> u64 {
+    match (entry.planned.step, entry.reply) {
+        (Step::PastDue { stamp }, Ok(Answer::Drew(outcome))) if stamp.minute == at => outcome.drawn,
+        _ => 0,
+    }
+}
+
+// All steps, in their order.
+#[derive(Drop)]
+pub(crate) struct Journal {
+    entries: Vec<Entry>,
+}
+
+impl Journal {
+    pub(crate) fn new(
+        heap: Global,
+        steps: &[Planned],
+        replies: &[Reply],
+    ) -> Result<Journal, AllocError> {
+        let entries = steps
+            .iter()
+            .zip(replies.iter())
+            .map(|(planned, reply)| Entry {
+                planned: *planned,
+                reply: *reply,
+            })
+            .collect(heap)?;
+        Ok(Journal { entries })
+    }
+
+    pub(crate) fn len(&self) -> usize {
+        self.entries.len()
+    }
+
     // From one year to another, both included.
     pub(crate) fn totals(&self, first: u16, last: u16) -> Totals {
         let mut totals = Totals::new();
-        for (planned, reply) in self.steps.iter().zip(self.replies.iter()) {
-            if first <= planned.year && planned.year <= last {
-                totals.add(planned.step, *reply);
+        for entry in self.entries.iter() {
+            if (first..=last).contains(&entry.planned.year) {
+                totals.add(entry.planned.step, entry.reply);
             }
         }
         totals
@@ -121,50 +156,42 @@ impl Journal<'_> {
     // A Counter-Party's account at the end of a year.
     pub(crate) fn account(&self, number: u16, last: u16) -> Account {
         let mut account = Account::new();
-        for (planned, reply) in self.steps.iter().zip(self.replies.iter()) {
-            if let Ok(answer) = reply
+        for entry in self.entries.iter() {
+            let planned = entry.planned;
+            if let Ok(answer) = entry.reply
                 && planned.year <= last
                 && planned.step.concerns(number)
             {
-                account.add(planned.step, *answer);
+                account.add(planned.step, answer);
             }
         }
         account
     }
 
-    // What all owe at the end of a year.
-    pub(crate) fn owed(&self, last: u16) -> u64 {
-        let mut owed: u64 = 0;
+    // A sum over the Counter-Parties' accounts at the end of a year.
+    pub(crate) fn of_all<F: Fn(Account) -> u64>(&self, last: u16, cents: F) -> u64
+        requires { F.IsAlwaysCallable cents }
+    {
+        let mut sum: u64 = 0;
         for party in COUNTER_PARTIES {
-            owed = owed.saturating_add(self.account(party.number, last).owed);
+            sum = sum.saturating_add(cents(self.account(party.number, last)));
         }
-        owed
+        sum
     }
 
     // What the runs at a minute of the day drew.
     pub(crate) fn drawn_at(&self, at: u16) -> u64 {
-        let mut drawn: u64 = 0;
-        for (planned, reply) in self.steps.iter().zip(self.replies.iter()) {
-            if let Step::PastDue { minute, .. } = planned.step
-                && minute == at
-                && let Ok(Answer::Drew(outcome)) = reply
-            {
-                drawn = drawn.saturating_add(outcome.drawn);
-            }
-        }
-        drawn
+        self.entries
+            .iter()
+            .map(|entry| drawn_by(entry, at))
+            .fold(0, |sum: u64, drawn| sum.saturating_add(drawn))
     }
 
     // How many calls were refused with a number.
-    pub(crate) fn refused_with(&self, number: u8) -> u64 {
-        let mut count: u64 = 0;
-        for reply in self.replies {
-            if let Err(fault) = reply
-                && fault.number() == number
-            {
-                count = count.saturating_add(1);
-            }
-        }
-        count
+    pub(crate) fn refused_with(&self, number: u8) -> usize {
+        self.entries
+            .iter()
+            .filter(|entry| matches!(entry.reply, Err(fault) if fault.number() == number))
+            .count()
     }
 }

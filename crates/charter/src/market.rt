@@ -1,7 +1,8 @@
 // The market's months: their records, and the charges that these come to.
 use crate::parties::{NEWCOMER_SINCE, PARTIES, UNDER};
 use activity::{Closed, Position, Table};
-use anyhow::anyhow;
+use anyhow::Context;
+use records::{Determinant, Mark, Record};
 use split::{Amount, split};
 use std::alloc::Global;
 
@@ -14,8 +15,8 @@ pub(crate) const MONTHS: u16 = 360;
 struct Meter {
     participant: usize,
     since: u16,
-    determinant: u8,
-    mark: u8,
+    determinant: Determinant,
+    mark: Option<Mark>,
     base: i32,
     season: i32,
     growth: i32,
@@ -27,8 +28,8 @@ const METERS: [Meter; 10] = [
     Meter {
         participant: 0,
         since: 0,
-        determinant: 3,
-        mark: 0,
+        determinant: Determinant::Rtamlexsecm,
+        mark: None,
         base: 5_000_000,
         season: 120_011,
         growth: 20_003,
@@ -36,8 +37,8 @@ const METERS: [Meter; 10] = [
     Meter {
         participant: 1,
         since: 0,
-        determinant: 4,
-        mark: 0,
+        determinant: Determinant::Mebl,
+        mark: None,
         base: -400_000,
         season: -10_007,
         growth: 0,
@@ -45,8 +46,8 @@ const METERS: [Meter; 10] = [
     Meter {
         participant: 1,
         since: 0,
-        determinant: 7,
-        mark: 0,
+        determinant: Determinant::Daes,
+        mark: None,
         base: 900_000,
         season: 0,
         growth: 0,
@@ -54,8 +55,8 @@ const METERS: [Meter; 10] = [
     Meter {
         participant: 2,
         since: 0,
-        determinant: 6,
-        mark: 0,
+        determinant: Determinant::Rtqqep,
+        mark: None,
         base: 14_000_000,
         season: 300_001,
         growth: 11_003,
@@ -63,8 +64,8 @@ const METERS: [Meter; 10] = [
     Meter {
         participant: 3,
         since: 0,
-        determinant: 1,
-        mark: 0,
+        determinant: Determinant::Rtmg,
+        mark: None,
         base: 3_100_000,
         season: 70_001,
         growth: 9_001,
@@ -72,8 +73,8 @@ const METERS: [Meter; 10] = [
     Meter {
         participant: 3,
         since: 0,
-        determinant: 1,
-        mark: 2,
+        determinant: Determinant::Rtmg,
+        mark: Some(Mark::RucInterval),
         base: 500_000,
         season: 0,
         growth: 0,
@@ -81,8 +82,8 @@ const METERS: [Meter; 10] = [
     Meter {
         participant: 3,
         since: 0,
-        determinant: 2,
-        mark: 0,
+        determinant: Determinant::Rtdcimp,
+        mark: None,
         base: 700_003,
         season: 0,
         growth: 0,
@@ -90,8 +91,8 @@ const METERS: [Meter; 10] = [
     Meter {
         participant: 4,
         since: 0,
-        determinant: 8,
-        mark: 0,
+        determinant: Determinant::Daep,
+        mark: None,
         base: 2_400_000,
         season: 0,
         growth: 1_009,
@@ -99,8 +100,8 @@ const METERS: [Meter; 10] = [
     Meter {
         participant: 5,
         since: NEWCOMER_SINCE,
-        determinant: 15,
-        mark: 0,
+        determinant: Determinant::Optp,
+        mark: None,
         base: 1_500_000,
         season: 0,
         growth: 0,
@@ -108,8 +109,8 @@ const METERS: [Meter; 10] = [
     Meter {
         participant: 6,
         since: NEWCOMER_SINCE,
-        determinant: 16,
-        mark: 0,
+        determinant: Determinant::Oblp,
+        mark: None,
         base: 900_000,
         season: 33_333,
         growth: 0,
@@ -126,65 +127,53 @@ fn quantity(meter: Meter, month: u16) -> i32 {
         .saturating_add(meter.growth.saturating_mul(years))
 }
 
-// Posts the month's records to the table, and closes the month.
-fn collect_month(table: &mut Table, month: u16) -> anyhow::Result<Closed> {
-    let collecting = table.open(month);
-    for meter in METERS {
-        if meter.since <= month {
-            let position = Position::new(meter.participant);
-            let quantity = quantity(meter, month);
-            let posted = table.post(
-                &collecting,
-                position,
-                meter.determinant,
-                meter.mark,
-                quantity,
-            );
-            if posted.is_err() {
-                return Err(anyhow!("a record is refused"));
-            }
-        }
-    }
-    Ok(collecting.close())
-}
-
-// Each month's table and the closed month, by the month's number.
+// A closed month, with the table that its records were posted to.
 #[derive(Drop)]
-pub(crate) struct Market {
-    pub(crate) tables: Vec<Table>,
-    pub(crate) months: Vec<Closed>,
+pub(crate) struct MarketMonth {
+    pub(crate) table: Table,
+    pub(crate) month: Closed,
 }
 
-impl Market {
-    pub(crate) fn collect(heap: Global) -> anyhow::Result<Market> {
-        let mut tables = Vec::new(heap);
-        let mut months = Vec::new(heap);
-        for month in 0..MONTHS {
-            let mut table = Table::new();
-            let closed = collect_month(&mut table, month)?;
-            tables.push(table)?;
-            months.push(closed)?;
+impl MarketMonth {
+    fn collect(month: u16) -> anyhow::Result<MarketMonth> {
+        let mut table = Table::new();
+        let collecting = table.open(month);
+        for meter in METERS.iter().filter(|meter| meter.since <= month) {
+            let record = Record {
+                determinant: meter.determinant as u8,
+                mark: meter.mark.map_or(0, |mark| mark as u8),
+                quantity: quantity(*meter, month),
+            };
+            table
+                .post(&collecting, Position::new(meter.participant), record)
+                .ok()
+                .context("a record is refused")?;
         }
-        Ok(Market { tables, months })
+        let month = collecting.close();
+        Ok(MarketMonth { table, month })
+    }
+
+    // What each Counter-Party will be charged of an amount, by place.
+    pub(crate) fn expected_charges(&self, cents: u64) -> anyhow::Result<[u64; PARTIES]> {
+        let mut activities = [0; PARTIES];
+        let mut charges = [0; PARTIES];
+        let amount = Amount::new(cents).ok().context("no amount")?;
+        self.table
+            .activities(&self.month, &UNDER, &mut activities)
+            .ok()
+            .context("another month's table")?;
+        split(amount, &activities, &mut charges)
+            .ok()
+            .context("nothing to share by")?;
+        Ok(charges)
     }
 }
 
-// What each Counter-Party will be charged of an amount, by place.
-pub(crate) fn expected_charges(
-    table: &Table,
-    month: &Closed,
-    cents: u64,
-) -> anyhow::Result<[u64; PARTIES]> {
-    let mut activities = [0; PARTIES];
-    let mut charges = [0; PARTIES];
-    let Ok(amount) = Amount::new(cents) else {
-        return Err(anyhow!("no amount"));
-    };
-    if table.activities(month, &UNDER, &mut activities).is_err() {
-        return Err(anyhow!("another month's table"));
+// The months by their numbers.
+pub(crate) fn collect_months(heap: Global) -> anyhow::Result<Vec<MarketMonth>> {
+    let mut months = Vec::new(heap);
+    for month in 0..MONTHS {
+        months.push(MarketMonth::collect(month)?)?;
     }
-    if split(amount, &activities, &mut charges).is_err() {
-        return Err(anyhow!("nothing to share by"));
-    }
-    Ok(charges)
+    Ok(months)
 }

@@ -1,10 +1,10 @@
 // The steps of one month: its bill, payments in time, the runs on its due day, and late payments.
 use crate::days::first_day;
-use crate::market::{Market, expected_charges};
+use crate::market::MarketMonth;
 use crate::parties::{COUNTER_PARTIES, CounterParty, PARTIES};
 use crate::plan::{Plan, Step};
-use anyhow::anyhow;
-use calendar::{Calendar, due_day};
+use anyhow::Context;
+use calendar::{Calendar, Stamp, due_day};
 use foundation::DUE_MINUTE;
 use std::alloc::{AllocError, Global};
 
@@ -14,6 +14,17 @@ const BILL_MINUTE: u16 = 600;
 const PAY_MINUTE: u16 = 900;
 
 const LATE_DAYS: u16 = 4;
+
+// Months of a year.
+const JANUARY: u16 = 0;
+
+const MARCH: u16 = 2;
+
+const JUNE: u16 = 5;
+
+const SEPTEMBER: u16 = 8;
+
+const DECEMBER: u16 = 11;
 
 // An invoice as it is expected.
 #[derive(Clone, Copy)]
@@ -33,6 +44,10 @@ pub(crate) struct Month {
     invoices: Vec<Invoice>,
 }
 
+fn at(day: u16, minute: u16) -> Stamp {
+    Stamp { day, minute }
+}
+
 fn cents_of(month: u16) -> u64 {
     249_999_983 + 10_007 * u64::from(month)
 }
@@ -43,43 +58,32 @@ fn expected_invoices(
     last: usize,
     charges: [u64; PARTIES],
 ) -> Result<Vec<Invoice>, AllocError> {
-    let mut invoices = Vec::new(heap);
-    let mut number = last;
-    for (payer, charge) in COUNTER_PARTIES.iter().zip(charges.iter()) {
-        if *charge > 0 {
-            number = number.saturating_add(1);
-            invoices.push(Invoice {
-                payer: *payer,
-                number,
-                charge: *charge,
-            })?;
-        }
-    }
-    Ok(invoices)
+    COUNTER_PARTIES
+        .iter()
+        .zip(charges.iter())
+        .filter(|(_, charge)| **charge > 0)
+        .zip(last.saturating_add(1)..=usize::MAX)
+        .map(|((payer, charge), number)| Invoice {
+            payer: *payer,
+            number,
+            charge: *charge,
+        })
+        .collect(heap)
 }
 
 impl Month {
     // What the bill of a month is expected to issue, where so many invoices were issued before.
     pub(crate) fn expected<C: Calendar>(
         heap: Global,
-        market: &Market,
+        market: &MarketMonth,
         calendar: &C,
         number: u16,
         issued: usize,
     ) -> anyhow::Result<Month> {
-        let place = usize::from(number);
-        let Some(table) = market.tables.get(place) else {
-            return Err(anyhow!("no table"));
-        };
-        let Some(month) = market.months.get(place) else {
-            return Err(anyhow!("no closed month"));
-        };
         let cents = cents_of(number);
-        let charges = expected_charges(table, month, cents)?;
+        let charges = market.expected_charges(cents)?;
         let bill_day = first_day(number.saturating_add(1));
-        let Some(due_day) = due_day(calendar, bill_day) else {
-            return Err(anyhow!("no due day"));
-        };
+        let due_day = due_day(calendar, bill_day).context("no due day")?;
         Ok(Month {
             number,
             cents,
@@ -103,8 +107,7 @@ impl Month {
             counter_party: invoice.payer.number,
             invoice: Some(invoice.number),
             cents,
-            day,
-            minute: PAY_MINUTE,
+            stamp: at(day, PAY_MINUTE),
         };
         plan.add(self.number, step)
     }
@@ -113,26 +116,25 @@ impl Month {
         self.due_day.saturating_add(LATE_DAYS)
     }
 
-    fn add_payments_in_time(&self, plan: &mut Plan) -> Result<(), AllocError> {
+    // On a day, what the rule says of each invoice.
+    fn add_payments<F: Fn(Invoice) -> u64>(
+        &self,
+        plan: &mut Plan,
+        day: u16,
+        paid: F,
+    ) -> Result<(), AllocError>
+        requires { F.IsAlwaysCallable paid }
+    {
         for invoice in self.invoices.iter() {
-            let cents = invoice.payer.pays_in_time(self.number, invoice.charge);
-            self.add_payment(plan, *invoice, cents, self.due_day)?;
-        }
-        Ok(())
-    }
-
-    fn add_late_payments(&self, plan: &mut Plan) -> Result<(), AllocError> {
-        for invoice in self.invoices.iter() {
-            let cents = invoice.payer.pays_late(invoice.charge);
-            self.add_payment(plan, *invoice, cents, self.late_day())?;
+            self.add_payment(plan, *invoice, paid(*invoice), day)?;
         }
         Ok(())
     }
 
     // A run, and what everyone holds after it.
     fn add_run(&self, plan: &mut Plan, minute: u16) -> Result<(), AllocError> {
-        let day = self.due_day;
-        plan.add(self.number, Step::PastDue { day, minute })?;
+        let stamp = at(self.due_day, minute);
+        plan.add(self.number, Step::PastDue { stamp })?;
         plan.add_reports(self.number)
     }
 
@@ -140,8 +142,7 @@ impl Month {
         let step = Step::Bill {
             month: self.number,
             cents: self.cents,
-            day: self.bill_day,
-            minute: BILL_MINUTE,
+            stamp: at(self.bill_day, BILL_MINUTE),
         };
         plan.add(self.number, step)?;
         plan.invoices = plan.invoices.saturating_add(self.invoices.len());
@@ -151,27 +152,23 @@ impl Month {
     // What the ledger is to refuse: in March a remark that names no invoice, in June a payment on a settled invoice,
     // in September a run before the last moment.
     fn add_slips(&self, plan: &mut Plan) -> Result<(), AllocError> {
-        let Some(first) = self.invoices.get(0) else {
+        let Some(first) = self.invoices.first() else {
             return Ok(());
         };
         match self.number % 12 {
-            2 => {
+            MARCH => {
                 let step = Step::Pay {
                     counter_party: first.payer.number,
                     invoice: None,
                     cents: first.charge,
-                    day: self.late_day(),
-                    minute: PAY_MINUTE,
+                    stamp: at(self.late_day(), PAY_MINUTE),
                 };
                 plan.add(self.number, step)
             }
-            5 => self.add_payment(plan, *first, first.charge, self.late_day()),
-            8 => {
-                let step = Step::PastDue {
-                    day: self.due_day,
-                    minute: DUE_MINUTE,
-                };
-                plan.add(self.number, step)
+            JUNE => self.add_payment(plan, *first, first.charge, self.late_day()),
+            SEPTEMBER => {
+                let stamp = at(self.due_day, DUE_MINUTE);
+                plan.add(self.number, Step::PastDue { stamp })
             }
             _ => Ok(()),
         }
@@ -182,15 +179,19 @@ impl Month {
         plan.add_registrations(self.number)?;
         plan.add_enrolments(self.number)?;
         self.add_bill(plan)?;
-        self.add_payments_in_time(plan)?;
+        self.add_payments(plan, self.due_day, |invoice| {
+            invoice.payer.pays_in_time(self.number, invoice.charge)
+        })?;
         self.add_run(plan, DUE_MINUTE)?;
-        if self.number % 12 == 0 {
+        if self.number % 12 == JANUARY {
             plan.add_fundings(self.number)?;
         }
         self.add_run(plan, DUE_MINUTE + 1)?;
-        self.add_late_payments(plan)?;
+        self.add_payments(plan, self.late_day(), |invoice| {
+            invoice.payer.pays_late(invoice.charge)
+        })?;
         self.add_slips(plan)?;
-        if self.number % 12 == 11 {
+        if self.number % 12 == DECEMBER {
             plan.add_reports(self.number)?;
         }
         Ok(())

@@ -1,5 +1,7 @@
 // The Counter-Parties, how they pay, and what security they post.
 
+use std::fmt;
+
 // What a Counter-Party pays of its invoices.
 #[derive(Clone, Copy)]
 pub(crate) enum Habit {
@@ -72,15 +74,15 @@ pub(crate) const UNDER: [usize; 7] = [0, 0, 1, 2, 3, 4, 4];
 // The participants are numbered from this on.
 pub(crate) const FIRST_PARTICIPANT: u16 = 101;
 
-impl Habit {
-    pub(crate) fn name(self) -> &'static str {
-        match self {
+impl fmt::Display for Habit {
+    fn fmt<W: fmt::Write>(&self, f: &mut fmt::Formatter<W>) -> fmt::Result {
+        f.write_str(match self {
             Habit::InFull => "pays in full",
             Habit::TwoThirds => "pays two thirds",
             Habit::TwoMonthsOfThree => "pays two months of three",
             Habit::Late => "pays late",
             Habit::Half => "pays half",
-        }
+        })
     }
 }
 

@@ -1,5 +1,6 @@
 // The charter's calls as plain data. What a call is lent is named by its place.
 use crate::parties::{COUNTER_PARTIES, FIRST_PARTICIPANT, UNDER};
+use calendar::Stamp;
 use security::Means;
 use std::alloc::{AllocError, Global};
 
@@ -16,15 +17,13 @@ pub(crate) enum Step {
     Bill {
         month: u16,
         cents: u64,
-        day: u16,
-        minute: u16,
+        stamp: Stamp,
     },
     Pay {
         counter_party: u16,
         invoice: Option<usize>,
         cents: u64,
-        day: u16,
-        minute: u16,
+        stamp: Stamp,
     },
     Fund {
         counter_party: u16,
@@ -32,8 +31,7 @@ pub(crate) enum Step {
         cents: u64,
     },
     PastDue {
-        day: u16,
-        minute: u16,
+        stamp: Stamp,
     },
     Report {
         counter_party: u16,
@@ -66,10 +64,7 @@ impl Step {
 
     // Whether it is a payment after a day.
     pub(crate) fn is_paid_after(self, due_day: u16) -> bool {
-        match self {
-            Step::Pay { day, .. } => day > due_day,
-            _ => false,
-        }
+        matches!(self, Step::Pay { stamp, .. } if stamp.day > due_day)
     }
 }
 
@@ -103,20 +98,17 @@ impl Plan {
 
     // Registers those who come with the month.
     pub(crate) fn add_registrations(&mut self, month: u16) -> Result<(), AllocError> {
-        for party in COUNTER_PARTIES {
-            if party.since == month {
-                let counter_party = party.number;
-                self.add(month, Step::Register { counter_party })?;
-            }
+        for party in COUNTER_PARTIES.iter().filter(|party| party.since == month) {
+            let counter_party = party.number;
+            self.add(month, Step::Register { counter_party })?;
         }
         Ok(())
     }
 
     // Enrols the participants of those who come with the month.
     pub(crate) fn add_enrolments(&mut self, month: u16) -> Result<(), AllocError> {
-        let mut participant = FIRST_PARTICIPANT;
-        for place in UNDER {
-            if let Some(party) = COUNTER_PARTIES.get(place)
+        for (place, participant) in UNDER.iter().zip(FIRST_PARTICIPANT..=u16::MAX) {
+            if let Some(party) = COUNTER_PARTIES.get(*place)
                 && party.since == month
             {
                 let counter_party = party.number;
@@ -126,18 +118,18 @@ impl Plan {
                 };
                 self.add(month, step)?;
             }
-            participant = participant.saturating_add(1);
         }
         Ok(())
     }
 
     // A report of everyone who is registered.
     pub(crate) fn add_reports(&mut self, month: u16) -> Result<(), AllocError> {
-        for party in COUNTER_PARTIES {
-            if party.is_registered(month) {
-                let counter_party = party.number;
-                self.add(month, Step::Report { counter_party })?;
-            }
+        for party in COUNTER_PARTIES
+            .iter()
+            .filter(|party| party.is_registered(month))
+        {
+            let counter_party = party.number;
+            self.add(month, Step::Report { counter_party })?;
         }
         Ok(())
     }
@@ -162,11 +154,12 @@ impl Plan {
 
     // What everyone posts in a January.
     pub(crate) fn add_fundings(&mut self, month: u16) -> Result<(), AllocError> {
-        for party in COUNTER_PARTIES {
-            if party.is_registered(month) {
-                self.add_funding(month, party.number, Means::Cash, party.cash)?;
-                self.add_funding(month, party.number, Means::Letter, party.letter)?;
-            }
+        for party in COUNTER_PARTIES
+            .iter()
+            .filter(|party| party.is_registered(month))
+        {
+            self.add_funding(month, party.number, Means::Cash, party.cash)?;
+            self.add_funding(month, party.number, Means::Letter, party.letter)?;
         }
         Ok(())
     }

@@ -24,7 +24,7 @@ fn print_totals(rt: &impl Print, journal: &Journal, first: u16, last: u16) -> io
     let late = totals.paid_late;
     let funded = totals.funded;
     let drawn = totals.drawn;
-    let owed = journal.owed(last);
+    let owed = journal.of_all(last, |account| account.owed);
     let refused = totals.refused;
     println!(rt;
         "{billed:>12} {paid:>12} {late:>12} {funded:>12} {drawn:>12} {owed:>12} {refused:>8}"
@@ -46,7 +46,7 @@ fn print_years(rt: &impl Print, journal: &Journal) -> io::Result<()> {
 
 fn print_account(rt: &impl Print, journal: &Journal, party: CounterParty) -> io::Result<()> {
     let number = party.number;
-    let habit = party.habit.name();
+    let habit = party.habit;
     let account = journal.account(number, LAST);
     let charged = account.charged;
     let paid = account.paid;
@@ -66,10 +66,7 @@ fn print_accounts(rt: &impl Print, journal: &Journal) -> io::Result<()> {
 }
 
 fn print_charges(rt: &impl Print, journal: &Journal) -> io::Result<()> {
-    let mut charged: u64 = 0;
-    for party in COUNTER_PARTIES {
-        charged = charged.saturating_add(journal.account(party.number, LAST).charged);
-    }
+    let charged = journal.of_all(LAST, |account| account.charged);
     let billed = journal.totals(0, LAST).billed;
     let is = relation(charged, billed);
     println!(rt; "Charged to all = billed:")?;
@@ -77,10 +74,7 @@ fn print_charges(rt: &impl Print, journal: &Journal) -> io::Result<()> {
 }
 
 fn print_security(rt: &impl Print, journal: &Journal) -> io::Result<()> {
-    let mut left: u64 = 0;
-    for party in COUNTER_PARTIES {
-        left = left.saturating_add(journal.account(party.number, LAST).held);
-    }
+    let left = journal.of_all(LAST, |account| account.held);
     let totals = journal.totals(0, LAST);
     let funded = totals.funded;
     let drawn = totals.drawn;
@@ -103,7 +97,7 @@ fn print_refusals(rt: &impl Print, journal: &Journal) -> io::Result<()> {
 }
 
 pub(crate) fn print_term(rt: &impl Print, journal: &Journal) -> io::Result<()> {
-    let count = journal.replies.len();
+    let count = journal.len();
     println!(rt; "Thirty years in {count} calls, in cents:")?;
     print_years(rt, journal)?;
     print_accounts(rt, journal)?;

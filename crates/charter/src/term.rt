@@ -1,7 +1,7 @@
 // The whole term: its months are planned, carried out by one call, and printed.
 use crate::calls::{Lent, carry_steps};
 use crate::journal::Journal;
-use crate::market::{MONTHS, Market};
+use crate::market::{MONTHS, MarketMonth, collect_months};
 use crate::month::Month;
 use crate::plan::Plan;
 use crate::printing::print_term;
@@ -14,9 +14,13 @@ const NO_BANK_DAYS: [u16; 2] = [184, 4_933];
 // Friday 8 February 2030.
 const NO_BUSINESS_DAYS: [u16; 1] = [3_691];
 
-fn plan_months<C: Calendar>(heap: Global, market: &Market, calendar: &C) -> anyhow::Result<Plan> {
+fn plan_months<C: Calendar>(
+    heap: Global,
+    months: &[MarketMonth],
+    calendar: &C,
+) -> anyhow::Result<Plan> {
     let mut plan = Plan::new(heap);
-    for number in 0..MONTHS {
+    for (market, number) in months.iter().zip(0..MONTHS) {
         let month = Month::expected(heap, market, calendar, number, plan.invoices)?;
         month.add_to(&mut plan)?;
     }
@@ -25,30 +29,24 @@ fn plan_months<C: Calendar>(heap: Global, market: &Market, calendar: &C) -> anyh
 
 // Remark n names invoice n.
 fn name_invoices(heap: Global, invoices: usize) -> Result<Vec<String>, AllocError> {
-    let mut remarks = Vec::new(heap);
-    for number in 0..=invoices {
-        remarks.push(format!(in heap; "INV{number}")?)?;
-    }
-    Ok(remarks)
+    (0..=invoices)
+        .map(|number| -> Result<String, AllocError> { format!(in heap; "INV{number}") })
+        .try_collect(heap)
 }
 
 pub(crate) fn carry_through(rt: &HostRuntime) -> anyhow::Result<()> {
     let heap = rt.alloc();
-    let market = Market::collect(heap)?;
+    let months = collect_months(heap)?;
     let weekly = Weekly::new(&NO_BANK_DAYS, &NO_BUSINESS_DAYS);
-    let plan = plan_months(heap, &market, &weekly)?;
+    let plan = plan_months(heap, months.as_slice(), &weekly)?;
     let remarks = name_invoices(heap, plan.invoices)?;
     let lent = Lent {
-        tables: market.tables.as_slice(),
-        months: market.months.as_slice(),
+        months: months.as_slice(),
         remarks: remarks.as_slice(),
         calendar: &weekly,
     };
     let carried = carry_steps(heap, &lent, plan.steps.as_slice())?;
-    let journal = Journal {
-        steps: plan.steps.as_slice(),
-        replies: carried.replies.as_slice(),
-    };
+    let journal = Journal::new(heap, plan.steps.as_slice(), carried.replies.as_slice())?;
     print_term(rt, &journal)?;
     Ok(())
 }

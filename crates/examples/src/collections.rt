@@ -22,36 +22,23 @@ const CHARGES: [Charge; 3] = [
     },
 ];
 
-fn number_of(answer: Result<u64, Fault>) -> u8 {
-    match answer {
-        Ok(_) => 0,
-        Err(fault) => fault.number(),
-    }
-}
-
-fn balance_at(list: &[Invoice], k: usize) -> u64 {
-    match list.get(k) {
-        Some(invoice) => invoice.balance,
-        None => 0,
-    }
+fn balance_at(list: &[Invoice], k: usize) -> Option<u64> {
+    list.get(k).map(|invoice| invoice.balance)
 }
 
 // No invoice for a charge of 0, and none where there are not places for all.
 #[test]
 fn places(rt: HostRuntime) -> Result<(), Fail> {
     let mut book: Receivables<3> = Receivables::new(rt.alloc(), 26)?;
-    let Ok(issued) = book.issue(&CHARGES, 1507) else {
-        return Err(Fail::new("places"));
-    };
+    let issued = book.issue(&CHARGES, 1507)?;
     assert_eq!(rt; issued.count, 2);
     assert_eq!(rt; issued.first, 1);
     assert!(rt; book.issue(&CHARGES, 1507).is_err());
     assert_eq!(rt; book.invoices().len(), 2);
-    assert_eq!(rt; number_of(book.pay(2, 26, 50)), 0);
+    assert!(rt; book.pay(2, 26, 50).is_ok());
     assert_eq!(rt; book.invoices().len(), 1);
-    let Ok(again) = book.issue(&CHARGES, 1508) else {
-        return Err(Fail::new("a place is free again"));
-    };
+    // A place is free again.
+    let again = book.issue(&CHARGES, 1508)?;
     assert_eq!(rt; again.first, 3);
     Ok(())
 }
@@ -60,17 +47,17 @@ fn places(rt: HostRuntime) -> Result<(), Fail> {
 fn payments(rt: HostRuntime) -> Result<(), Fail> {
     let mut book: Receivables<256> = Receivables::new(rt.alloc(), 26)?;
     assert!(rt; book.issue(&CHARGES, 1507).is_ok());
-    assert_eq!(rt; number_of(book.pay(3, 9, 0)), 25);
-    assert_eq!(rt; number_of(book.pay(1, 9, 0)), 26);
-    assert_eq!(rt; number_of(book.pay(1, 26, 0)), 27);
-    assert_eq!(rt; number_of(book.pay(1, 26, 101)), 27);
-    assert_eq!(rt; balance_at(book.invoices(), 0), 100);
-    assert_eq!(rt; book.pay(1, 26, 33).ok(), Some(67));
+    assert_eq!(rt; book.pay(3, 9, 0).map_err(Fault::number), Err(25));
+    assert_eq!(rt; book.pay(1, 9, 0).map_err(Fault::number), Err(26));
+    assert_eq!(rt; book.pay(1, 26, 0).map_err(Fault::number), Err(27));
+    assert_eq!(rt; book.pay(1, 26, 101).map_err(Fault::number), Err(27));
+    assert_eq!(rt; balance_at(book.invoices(), 0), Some(100));
+    assert_eq!(rt; book.pay(1, 26, 33), Ok(67));
     assert_eq!(rt; book.owed_by(7), 67);
     assert_eq!(rt; book.owed_by(8), 0);
     assert_eq!(rt; book.owed_by(9), 50);
-    assert_eq!(rt; book.pay(1, 26, 67).ok(), Some(0));
-    assert_eq!(rt; number_of(book.pay(1, 26, 1)), 25);
+    assert_eq!(rt; book.pay(1, 26, 67), Ok(0));
+    assert_eq!(rt; book.pay(1, 26, 1).map_err(Fault::number), Err(25));
     Ok(())
 }
 
@@ -94,8 +81,8 @@ fn past_due_run(rt: HostRuntime) -> Result<(), Fail> {
     assert_eq!(rt; late.owed, 90);
     assert_eq!(rt; row[0].held(), 0);
     assert_eq!(rt; row[1].held(), 60);
-    assert_eq!(rt; balance_at(book.invoices(), 0), 40);
-    assert_eq!(rt; balance_at(book.invoices(), 1), 50);
+    assert_eq!(rt; balance_at(book.invoices(), 0), Some(40));
+    assert_eq!(rt; balance_at(book.invoices(), 1), Some(50));
     Ok(())
 }
 

@@ -1,4 +1,5 @@
 // Spreadsheet habits that the rules rule out: each test fails where the habit is followed.
+use crate::readings::record;
 use activity::{Position, Table};
 use records::Group;
 use split::{Amount, split};
@@ -9,8 +10,16 @@ use std::test::Fail;
 fn clipped_for_each_participant(rt: HostRuntime) {
     let mut table = Table::new();
     let month = table.open(46);
-    assert!(rt; table.post(&month, Position::new(0), 3, 0, -5).is_ok());
-    assert!(rt; table.post(&month, Position::new(1), 3, 0, 3).is_ok());
+    assert!(rt;
+        table
+            .post(&month, Position::new(0), record(3, 0, -5))
+            .is_ok()
+    );
+    assert!(rt;
+        table
+            .post(&month, Position::new(1), record(3, 0, 3))
+            .is_ok()
+    );
     assert_eq!(rt; table.group_value(&[0, 0], 0, Group::Load).count(), 12);
     assert_eq!(rt; table.activity(&[0, 0], 0), 12);
 }
@@ -21,7 +30,11 @@ fn quarter_hours_are_added_first(rt: HostRuntime) {
     let mut table = Table::new();
     let month = table.open(46);
     for _ in 0..5 {
-        assert!(rt; table.post(&month, Position::new(0), 5, 0, 3).is_ok());
+        assert!(rt;
+            table
+                .post(&month, Position::new(0), record(5, 0, 3))
+                .is_ok()
+        );
     }
     assert_eq!(rt; table.group_value(&[0], 0, Group::Sales).count(), 15);
 }

@@ -10,9 +10,13 @@ mod habits;
 #[cfg(test)]
 mod months;
 #[cfg(test)]
+mod readings;
+#[cfg(test)]
 mod refusals;
 #[cfg(test)]
 mod securities;
+#[cfg(test)]
+mod texts;
 #[cfg(test)]
 mod times;
 

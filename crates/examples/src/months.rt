@@ -1,22 +1,25 @@
 // A month from its opening to its activities.
+use crate::readings::record;
 use activity::{Position, Table};
-use records::{Determinant, Group, Mark, Ruling, Unit, ruled};
+use records::{Determinant, Group, Mark, Ruling, Unit};
 use std::test::Fail;
 
 #[test]
 fn determinants(rt: HostRuntime) {
     assert_eq!(rt;
-        ruled(16, 0, 5).ok(),
-        Some(Ruling::Counted(Determinant::Oblp))
+        record(16, 0, 5).ruled(),
+        Ok(Ruling::Counted(Determinant::Oblp))
     );
     assert_eq!(rt;
-        ruled(1, 1, 5).ok(),
-        Some(Ruling::Excluded(Mark::RmrResource))
+        record(1, 1, 5).ruled(),
+        Ok(Ruling::Excluded(Mark::RmrResource))
     );
     assert_eq!(rt;
-        ruled(1, 2, 5).ok(),
-        Some(Ruling::Excluded(Mark::RucInterval))
+        record(1, 2, 5).ruled(),
+        Ok(Ruling::Excluded(Mark::RucInterval))
     );
+    assert_eq!(rt; Determinant::try_from(16u8).ok(), Some(Determinant::Oblp));
+    assert!(rt; Determinant::try_from(17u8).is_err());
     assert_eq!(rt; Determinant::Mebl.unit(), Unit::MegawattHour);
     assert_eq!(rt; Determinant::Rtqqep.unit(), Unit::MegawattOverQuarterHour);
     assert_eq!(rt; Determinant::Obls.group().number(), 8);
@@ -27,11 +30,31 @@ fn determinants(rt: HostRuntime) {
 fn activities(rt: HostRuntime) {
     let mut table = Table::new();
     let month = table.open(46);
-    assert!(rt; table.post(&month, Position::new(0), 1, 0, 10).is_ok());
-    assert!(rt; table.post(&month, Position::new(0), 2, 0, 10).is_ok());
-    assert!(rt; table.post(&month, Position::new(0), 1, 2, 999).is_ok());
-    assert!(rt; table.post(&month, Position::new(1), 4, 0, -7).is_ok());
-    assert!(rt; table.post(&month, Position::new(2), 4, 0, 7).is_ok());
+    assert!(rt;
+        table
+            .post(&month, Position::new(0), record(1, 0, 10))
+            .is_ok()
+    );
+    assert!(rt;
+        table
+            .post(&month, Position::new(0), record(2, 0, 10))
+            .is_ok()
+    );
+    assert!(rt;
+        table
+            .post(&month, Position::new(0), record(1, 2, 999))
+            .is_ok()
+    );
+    assert!(rt;
+        table
+            .post(&month, Position::new(1), record(4, 0, -7))
+            .is_ok()
+    );
+    assert!(rt;
+        table
+            .post(&month, Position::new(2), record(4, 0, 7))
+            .is_ok()
+    );
     let closed = month.close();
     assert_eq!(rt; closed.month(), 46);
     let mut quarters = [9; 4];
@@ -45,7 +68,11 @@ fn activities(rt: HostRuntime) {
 fn months_follow(rt: HostRuntime) {
     let mut table = Table::new();
     let first = table.open(46);
-    assert!(rt; table.post(&first, Position::new(63), 8, 0, 25).is_ok());
+    assert!(rt;
+        table
+            .post(&first, Position::new(63), record(8, 0, 25))
+            .is_ok()
+    );
     let closed = first.close();
     let second = table.open(47);
     let mut quarters = [9];

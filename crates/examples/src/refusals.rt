@@ -1,22 +1,9 @@
 // Each refusal by its number, and what it leaves.
+use crate::readings::record;
 use activity::{Position, Table};
-use records::{Fault, Ruling};
+use records::Fault;
 use split::{Amount, Fault as SplitFault, split};
 use std::test::Fail;
-
-fn number_of(answer: Result<Ruling, Fault>) -> u8 {
-    match answer {
-        Ok(_) => 0,
-        Err(fault) => fault.number(),
-    }
-}
-
-fn split_number(answer: Result<u64, SplitFault>) -> u8 {
-    match answer {
-        Ok(_) => 0,
-        Err(fault) => fault.number(),
-    }
-}
 
 // Determinant, mark, sign and sum, in that order.
 #[test]
@@ -25,14 +12,32 @@ fn posts(rt: HostRuntime) {
     let earlier = table.open(45);
     let month = table.open(46);
     let first = Position::new(0);
-    assert_eq!(rt; number_of(table.post(&earlier, None, 0, 9, -1)), 12);
-    assert_eq!(rt; number_of(table.post(&month, None, 0, 9, -1)), 13);
-    assert_eq!(rt; number_of(table.post(&month, first, 0, 9, -1)), 14);
-    assert_eq!(rt; number_of(table.post(&month, first, 17, 0, 1)), 14);
-    assert_eq!(rt; number_of(table.post(&month, first, 1, 3, -1)), 15);
-    assert_eq!(rt; number_of(table.post(&month, first, 2, 1, -1)), 15);
-    assert_eq!(rt; number_of(table.post(&month, first, 1, 1, -1)), 16);
-    assert_eq!(rt; number_of(table.post(&month, first, 16, 0, -1)), 16);
+    let cases = [
+        (record(0, 9, -1), 14),
+        (record(17, 0, 1), 14),
+        (record(1, 3, -1), 15),
+        (record(2, 1, -1), 15),
+        (record(1, 1, -1), 16),
+        (record(16, 0, -1), 16),
+    ];
+    assert_eq!(rt;
+        table
+            .post(&earlier, None, record(0, 9, -1))
+            .map_err(Fault::number),
+        Err(12)
+    );
+    assert_eq!(rt;
+        table
+            .post(&month, None, record(0, 9, -1))
+            .map_err(Fault::number),
+        Err(13)
+    );
+    for (record, number) in cases {
+        assert_eq!(rt;
+            table.post(&month, first, record).map_err(Fault::number),
+            Err(number)
+        );
+    }
     assert_eq!(rt; table.activity(&[0], 0), 0);
 }
 
@@ -42,17 +47,29 @@ fn sums(rt: HostRuntime) {
     let mut table = Table::new();
     let month = table.open(46);
     let first = Position::new(0);
-    assert_eq!(rt;
-        number_of(table.post(&month, first, 1, 0, 2_000_000_000)),
-        0
+    assert!(rt;
+        table
+            .post(&month, first, record(1, 0, 2_000_000_000))
+            .is_ok()
     );
-    assert_eq!(rt; number_of(table.post(&month, first, 1, 0, 1)), 17);
-    assert_eq!(rt; number_of(table.post(&month, first, 1, 1, 1)), 0);
     assert_eq!(rt;
-        number_of(table.post(&month, first, 4, 0, -2_000_000_000)),
-        0
+        table
+            .post(&month, first, record(1, 0, 1))
+            .map_err(Fault::number),
+        Err(17)
     );
-    assert_eq!(rt; number_of(table.post(&month, first, 4, 0, -1)), 17);
+    assert!(rt; table.post(&month, first, record(1, 1, 1)).is_ok());
+    assert!(rt;
+        table
+            .post(&month, first, record(4, 0, -2_000_000_000))
+            .is_ok()
+    );
+    assert_eq!(rt;
+        table
+            .post(&month, first, record(4, 0, -1))
+            .map_err(Fault::number),
+        Err(17)
+    );
     assert_eq!(rt; table.activity(&[0], 0), 8_000_000_000);
 }
 
@@ -68,17 +85,17 @@ fn amounts(rt: HostRuntime) -> Result<(), Fail> {
 fn splits(rt: HostRuntime) -> Result<(), Fail> {
     let amount = Amount::new(2)?;
     let mut charges = [9; 3];
-    assert_eq!(rt; split_number(split(amount, &[0, 0], &mut charges)), 20);
     assert_eq!(rt;
-        split_number(split(amount, &[8_000_000_000, 1], &mut charges)),
-        21
+        split(amount, &[0, 0], &mut charges).map_err(SplitFault::number),
+        Err(20)
+    );
+    assert_eq!(rt;
+        split(amount, &[8_000_000_000, 1], &mut charges).map_err(SplitFault::number),
+        Err(21)
     );
     assert_eq!(rt; charges, [9, 9, 9]);
-    assert_eq!(rt;
-        split_number(split(amount, &[8_000_000_000, 0], &mut charges)),
-        0
-    );
+    assert!(rt; split(amount, &[8_000_000_000, 0], &mut charges).is_ok());
     assert_eq!(rt; charges, [2, 0, 0]);
-    assert_eq!(rt; split_number(Err(SplitFault::Amount)), 18);
+    assert_eq!(rt; SplitFault::Amount.number(), 18);
     Ok(())
 }

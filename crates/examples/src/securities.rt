@@ -1,13 +1,6 @@
 // Instruments and remarks.
 use remarks::{Digits, invoice_number};
-use security::{Cash, FundingRefused, Instrument, Letter, Means, Pair};
-
-fn room_named(answer: Result<(), FundingRefused>) -> u64 {
-    match answer {
-        Ok(_) => u64::MAX,
-        Err(refused) => refused.room,
-    }
-}
+use security::{Cash, Instrument, Letter, Means, Pair};
 
 #[test]
 fn cash(rt: HostRuntime) {
@@ -15,7 +8,10 @@ fn cash(rt: HostRuntime) {
     assert_eq!(rt; cash.room(Means::Cash), 10_000_000_000);
     assert_eq!(rt; cash.room(Means::Letter), 0);
     assert!(rt; cash.fund(Means::Cash, 10_000_000_000).is_ok());
-    assert_eq!(rt; room_named(cash.fund(Means::Cash, 1)), 0);
+    assert_eq!(rt;
+        cash.fund(Means::Cash, 1).map_err(|refused| refused.room),
+        Err(0)
+    );
     assert_eq!(rt; cash.draw(4), 4);
     assert_eq!(rt; cash.held(), 9_999_999_996);
     assert_eq!(rt; cash.room(Means::Cash), 4);
@@ -25,7 +21,10 @@ fn cash(rt: HostRuntime) {
 #[test]
 fn letter(rt: HostRuntime) {
     let mut letter = Letter::new();
-    assert_eq!(rt; room_named(letter.fund(Means::Cash, 1)), 0);
+    assert_eq!(rt;
+        letter.fund(Means::Cash, 1).map_err(|refused| refused.room),
+        Err(0)
+    );
     assert!(rt; letter.fund(Means::Letter, 40).is_ok());
     assert_eq!(rt; letter.draw(50), 40);
     assert_eq!(rt; letter.held(), 0);
@@ -45,17 +44,18 @@ fn cash_with_letter(rt: HostRuntime) {
     assert_eq!(rt; pair.first.held(), 0);
     assert_eq!(rt; pair.second.held(), 20);
     assert_eq!(rt;
-        room_named(pair.fund(Means::Letter, 10_000_000_000)),
-        9_999_999_960
+        pair.fund(Means::Letter, 10_000_000_000)
+            .map_err(|refused| refused.room),
+        Err(9_999_999_960)
     );
 }
 
 #[test]
 fn means(rt: HostRuntime) {
     assert_eq!(rt; Means::Letter.number(), 2);
-    assert!(rt; Means::numbered(1).is_some());
-    assert!(rt; Means::numbered(0).is_none());
-    assert!(rt; Means::numbered(3).is_none());
+    assert!(rt; Means::try_from(1u8).is_ok());
+    assert!(rt; Means::try_from(0u8).is_err());
+    assert!(rt; Means::try_from(3u8).is_err());
 }
 
 #[test]

@@ -42,6 +42,11 @@ module _ (p : ℕ → Bool) where
       go None f = refl
       go (Some k) f = absurd (true-false (p k) f.1 (h k f.0))
 
+  -- an answer that is the first is the one that the rule computes
+  pub first-answer : (n : ℕ) (o : Option ℕ) → First n o → o ≡ first p n
+  first-answer n None h = sym (first-none n h)
+  first-answer n (Some k) h = sym (first_found n k h)
+
   -- one turn of a loop
   pub first_on : (k : ℕ) → first p k ≡ None → p k ≡ false → first p (k + 1) ≡ None
   first_on k none off = rw add-one (ap (λ o. or_else o (cond (p k) (Some k) None)) none ∙ ap (λ b. cond b (Some k) None) off)

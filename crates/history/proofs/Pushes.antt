@@ -1,7 +1,6 @@
 -- One call more at the end of a history. Assumes nothing.
 use Rattle.std.proofs.Common.{◌≡◌, ℕ, ◌+◌, ◌<◌, List, [], ◌∷◌, ◌++◌, map, length, get_or, take, sym, refl, ap, ◌∙◌}
 use Rattle.std.proofs.lemmas.List.{take_more, map_push}
-use Rattle.std.specs.List.{AllByRecursion}
 use Rattle.ledger.specs.Secure.{Security}
 use Rattle.history.specs.Requests.{Request, Reply}
 use Rattle.history.specs.Steps.{State, Step}

@@ -14,10 +14,10 @@ use Rattle.history.specs.Requests.{Request, register, enrol, bill, pay, fund, ru
 abbrev pub request_of : {C : Type 0} → (C → CalendarMeaning) → Call C → Request
 request_of says (Register p) = register p
 request_of says (Enrol m p) = enrol m p
-request_of says (Bill table month amount day minute cal) = bill (meaning table.now) (closed_month month.now) amount day minute (says cal.now)
-request_of says (Pay day minute account amount remark) = pay day minute account amount remark.now
+request_of says (Bill table month amount stamp cal) = bill (meaning table.now) (closed_month month.now) amount stamp.day stamp.minute (says cal.now)
+request_of says (Pay stamp account amount remark) = pay stamp.day stamp.minute account amount remark.now
 request_of says (Fund p m n) = fund p m n
-request_of says (PastDue day minute) = run day minute
+request_of says (PastDue stamp) = run stamp.day stamp.minute
 request_of says (Report p) = report p
 
 -- what an accepted call of the code answers

@@ -2,8 +2,6 @@
 use ledger::{Billed, Report};
 use receivables::Outcome;
 
-pub(crate) mod replies;
-
 // Registering and enrolling answer nothing; a bill its invoices; a payment the balance left; a funding what is
 // then held; a past-due run what it drew and what is still owed; a report its four numbers.
 #[derive(Clone, Copy)]

@@ -1,5 +1,6 @@
 // A call of the ledger as a value, with what it is lent.
 use activity::{Closed, Table};
+use calendar::Stamp;
 
 #[derive(Drop)]
 pub enum Call<'a, C> {
@@ -14,13 +15,11 @@ pub enum Call<'a, C> {
         table: &'a Table,
         month: &'a Closed,
         amount: u64,
-        day: u16,
-        minute: u16,
+        stamp: Stamp,
         calendar: &'a C,
     },
     Pay {
-        day: u16,
-        minute: u16,
+        stamp: Stamp,
         account: u16,
         amount: u64,
         remark: &'a [u8],
@@ -31,8 +30,7 @@ pub enum Call<'a, C> {
         amount: u64,
     },
     PastDue {
-        day: u16,
-        minute: u16,
+        stamp: Stamp,
     },
     Report {
         counter_party: u16,

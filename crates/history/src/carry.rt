@@ -7,7 +7,7 @@ ghost use Rattle.history.specs.Steps.{Step};
 ghost use Rattle.history.specs.Places.{state_of, PlacesKept};
 ghost use Rattle.history.specs.Whole.{WholeHistory};
 
-use crate::answer::{Answer, replies};
+use crate::answer::Answer;
 use crate::call::Call;
 use calendar::Calendar;
 use ledger::{Fault, Ledger};
@@ -23,34 +23,45 @@ impl<C: Calendar> Call<'_, C> {
         ensures step { Step (state_of I.held I.room ledger.old row.old) (request_of C.meaning self.now) (reply_of result) (state_of I.held I.room ledger.new row.new) }
         ensures places { PlacesKept (state_of I.held I.room ledger.old row.old) (request_of C.meaning self.now) (reply_of result) (state_of I.held I.room ledger.new row.new) }
     {
+        // A call is data, which the law speaks of, and not a closure or a `dyn`.
         match self {
-            Call::Register { counter_party } => replies::done(ledger.register(*counter_party)),
+            Call::Register { counter_party } => {
+                ledger.register(*counter_party).map(|_| Answer::Done)
+            }
             Call::Enrol {
                 participant,
                 counter_party,
-            } => replies::done(ledger.enrol(*participant, *counter_party)),
+            } => ledger
+                .enrol(*participant, *counter_party)
+                .map(|_| Answer::Done),
             Call::Bill {
                 table,
                 month,
                 amount,
-                day,
-                minute,
+                stamp,
                 calendar,
-            } => replies::issued(ledger.bill(*table, *month, *amount, *day, *minute, *calendar)),
+            } => ledger
+                .bill(*table, *month, *amount, *stamp, *calendar)
+                .map(Answer::Issued),
             Call::Pay {
-                day,
-                minute,
+                stamp,
                 account,
                 amount,
                 remark,
-            } => replies::left(ledger.pay(*day, *minute, *account, *amount, remark)),
+            } => ledger
+                .pay(*stamp, *account, *amount, remark)
+                .map(Answer::Left),
             Call::Fund {
                 counter_party,
                 means,
                 amount,
-            } => replies::holds(ledger.fund(row, *counter_party, *means, *amount)),
-            Call::PastDue { day, minute } => replies::drew(ledger.past_due(*day, *minute, row)),
-            Call::Report { counter_party } => replies::tells(ledger.report(row, *counter_party)),
+            } => ledger
+                .fund(row, *counter_party, *means, *amount)
+                .map(Answer::Holds),
+            Call::PastDue { stamp } => ledger.past_due(*stamp, row).map(Answer::Drew),
+            Call::Report { counter_party } => {
+                ledger.report(row, *counter_party).map(Answer::Tells)
+            }
         }
     }
 

@@ -1,5 +1,5 @@
 -- What the steps of a bill give together. Assumes nothing.
-use Rattle.std.proofs.Common.{◌≡◌, ℕ, ◌+◌, ◌≤◌, Bool, true, false, cond, ◌&&◌, ltb, leb, List, [], ◌∷◌, ◌++◌, length, get_or, is_some, Some, None, Ok, Err, sum, Option, unwrap_or, sym, refl, ap, ◌∙◌, subst, ⊎_elim, arith, ltb-true, le-leb, leb-true}
+use Rattle.std.proofs.Common.{◌≡◌, ℕ, zero, suc, ◌+◌, ◌≤◌, Bool, true, false, cond, ◌&&◌, ltb, leb, List, [], ◌∷◌, ◌++◌, length, get_or, replicate, is_some, Some, None, Ok, Err, sum, Option, Result, unwrap_or, sym, refl, ap, ◌∙◌, subst, ⊎_elim, arith, ltb-true, le-leb, leb-true}
 use Rattle.std.proofs.lemmas.List.FromFn.{length-map-range_with_len, get_or-map-range_with_len}
 use Rattle.std.proofs.lemmas.List.{get_or_past}
 use Rattle.std.proofs.lemmas.List.Sums.{get_or-le-sum_by}
@@ -12,6 +12,7 @@ use Rattle.calendar.specs.Moments.{When}
 use Rattle.records.specs.declared.fault.Fault.TheVariants as record-fault
 use Rattle.activity.specs.Activity.{activities}
 use Rattle.activity.specs.Tables.{TableMeaning, carries, activities_answer}
+use Rattle.split.specs.declared.fault.Fault.{Fault as SplitFault}
 use Rattle.split.specs.declared.fault.Fault.TheVariants as split-fault
 use Rattle.split.specs.Amounts.{is_amount, amount_answer}
 use Rattle.split.specs.Laws.{FairSplit}
@@ -26,6 +27,7 @@ use Rattle.ledger.specs.declared.answers.Billed.{Billed}
 use Rattle.ledger.specs.declared.fault.Fault.{Fault}
 use Rattle.ledger.specs.declared.fault.Fault.TheVariants.{DueDay, Receivable}
 use Rattle.ledger.specs.Bill.{activities_of, charges_of, laid_charges, bills, bills_of, charge_asks, charge_answer, place_asks, place_answer, bill_answer}
+use Rattle.ledger.specs.Charges.{laid}
 use Rattle.ledger.specs.Months.{months_billed}
 use Rattle.ledger.specs.Model.{Model, is_later}
 use Rattle.ledger.specs.Pay.{moment_asks, moment_answer}
@@ -36,19 +38,28 @@ amount-is cents amount h =
     let qs = asks (is_amount amount) split-fault.Amount ∷ [] in
     (the_value qs amount cents h, (all_hold qs amount cents (sym h)).0)
 
+pub laid-ok : (cs out : List ℕ) (r : Result ℕ SplitFault) → Ok out ≡ laid cs r → (m : ℕ) × (Ok m ≡ r) × (out ≡ laid_out cs 32)
+laid-ok cs out (Ok m) h = (m, refl, cc)
+laid-ok cs out (Err f) h = absurd (let z : ◌≡◌ {A = ℕ} 0 1 = cc in omega arith)
+
+pub laid-err : (cs : List ℕ) (f : SplitFault) (r : Result ℕ SplitFault) → Err f ≡ laid cs r → Err f ≡ r
+laid-err cs f (Ok m) h = absurd (let z : ◌≡◌ {A = ℕ} 0 1 = cc in omega arith)
+laid-err cs f (Err g) h = cc
+
 module _ (s : Model) (t : TableMeaning) (month amount : ℕ) where
-  pub charged : (cents m n : ℕ) (us xs out : List ℕ) → Ok tt ≡ activities_answer t month → Ok cents ≡ amount_answer amount → month ≤ 959 → is_later s.month month ≡ true
-      → xs ≡ activities t.rows us n → us ≡ s.register.under → n ≡ length s.register.parties → Ok m ≡ split_answer xs → out ≡ laid_out (charges cents xs) 32 → FairSplit cents xs (charges cents xs)
+  pub charged : (cents n : ℕ) (us xs out : List ℕ) → Ok tt ≡ activities_answer t month → Ok cents ≡ amount_answer amount → month ≤ 959 → is_later s.month month ≡ true
+      → xs ≡ activities t.rows us n → us ≡ s.register.under → n ≡ length s.register.parties → Ok out ≡ laid (charges cents xs) (split_answer xs) → FairSplit cents xs (charges cents xs)
       → (Ok out ≡ charge_answer s t month amount) × FairSplit amount (activities_of s t) (charges_of s t amount)
-  charged cents m n us xs out carried amounts fits later acts under long summed laid fair =
+  charged cents n us xs out carried amounts fits later acts under long shared fair =
+      let split-ok = laid-ok (charges cents xs) out (split_answer xs) shared in
       let a = amount-is cents amount amounts in
       let same : xs ≡ activities_of s t = acts ∙ ap (λ u. activities t.rows u n) under ∙ ap (activities t.rows s.register.under) long in
-      let held = all_hold (activity_asks (sum xs)) (sum xs) m (sym summed) in
+      let held = all_hold (activity_asks (sum xs)) (sum xs) split-ok.0 (sym split-ok.1) in
       let twelve = (all_hold (asks (carries t month) record-fault.Month ∷ []) tt tt (sym carried)).0 in
       let twenty : leb 1 (sum (activities_of s t)) ≡ true = ap (λ ys. leb 1 (sum ys)) (sym same) ∙ held.0 in
       let more : leb (sum (activities_of s t)) 8000000000 ≡ true = ap (λ ys. leb (sum ys) 8000000000) (sym same) ∙ held.1.0 in
       let cs : charges cents xs ≡ charges_of s t amount = ap (λ c. charges c xs) a.0 ∙ ap (charges amount) same in (
-        ap Ok (laid ∙ ap (λ ys. laid_out ys 32) cs)
+        ap Ok (split-ok.2 ∙ ap (λ ys. laid_out ys 32) cs)
             ∙ sym (all-ok (charge_asks s t month amount) (laid_charges s t amount) (twelve, (a.1, (and_from _ _ (le-leb month 959 fits) later, (twenty, (more, tt)))))),
         subst (FairSplit amount (activities_of s t)) cs (subst (λ ys. FairSplit amount ys (charges cents xs)) same (subst (λ c. FairSplit c xs (charges cents xs)) a.0 fair)),
       )
@@ -113,11 +124,16 @@ pub laid-long : (cs : List ℕ) → length (laid_out cs 32) ≡ 32
 unfolding laid_out
 laid-long cs = length-map-range_with_len (λ i. get_or cs i 0) 0 32
 
-laid-small : (m : ℕ) (cs : List ℕ) → sum cs ≤ m → (k : ℕ) → get_or (laid_out cs 32) k 0 ≤ m
+pub laid-small : (m : ℕ) (cs : List ℕ) → sum cs ≤ m → (k : ℕ) → get_or (laid_out cs 32) k 0 ≤ m
 unfolding laid_out
 laid-small m cs h k =
     ⊎_elim (λ l. omega (arith, get_or-map-range_with_len (λ i. get_or cs i 0) 0 32 k k 0 l (omega arith), at-most-sum m cs h k))
     (λ l. omega (arith, get_or_past (laid_out cs 32) k 0 (omega (arith, laid-long cs, l)))) (cases_lt k 32)
+
+pub zeros-small : (n k : ℕ) → get_or (replicate n 0) k 0 ≤ 4294967295
+zeros-small zero k = omega arith
+zeros-small (suc n) zero = omega arith
+zeros-small (suc n) (suc k) = zeros-small n k
 
 later-months : (o : Option ℕ) (m : ℕ) → is_later o m ≡ true → months_billed o ≤ m
 later-months None m h = omega arith

@@ -1,7 +1,8 @@
 -- What funding and the past-due run give together. Assumes nothing.
-use Rattle.std.proofs.Common.{◌≡◌, ℕ, zero, suc, ◌+◌, ◌<◌, ◌≤◌, min, Bool, true, false, cond, leb, List, [], ◌∷◌, length, get_or, replicate, is_some, Some, None, Ok, Err, Result, unwrap_or, sym, ap, ◌∙◌, arith, le-leb}
+use Rattle.std.proofs.Common.{◌≡◌, ℕ, ◌+◌, ◌<◌, ◌≤◌, min, Bool, true, false, cond, leb, List, [], ◌∷◌, length, get_or, is_some, Some, None, Ok, Err, Result, unwrap_or, sym, ap, ◌∙◌, arith, le-leb}
 use borrow.Author.Tests.{lt-leb}
 use Rattle.std.proofs.lemmas.Bool.{cond-true, cond-false}
+use Rattle.std.proofs.lemmas.List.{length-map}
 use Rattle.foundation.specs.Limits.{most_held}
 use Rattle.foundation.specs.Questions.{Question, asks, verdict}
 use Rattle.foundation.proofs.Verdicts.{all_hold, all-ok, the_value, verdict-goes, verdict-stops}
@@ -19,7 +20,7 @@ use Rattle.ledger.specs.declared.fault.Fault.TheVariants.{Row, Means as MeansFau
 use Rattle.ledger.specs.Model.{Model, at}
 use Rattle.ledger.specs.Pay.{moment_asks, moment_answer}
 use Rattle.ledger.specs.Registries.{place_of}
-use Rattle.ledger.specs.Secure.{Security, no_security, place_funded, party_at, is_long, means_of, is_funding, place_asks, place_answer, fund_answer, run_asks, run_answer, reported, report_answer}
+use Rattle.ledger.specs.Secure.{Security, security_of, row_of, no_security, place_funded, party_at, is_long, means_of, is_funding, place_asks, place_answer, fund_answer, run_asks, run_answer, reported, report_answer}
 
 -- ---- one instrument
 module _ (x : Security) (m : Means) (n : ℕ) where
@@ -46,6 +47,10 @@ module _ (s : Model) (places p k : ℕ) where
 
   pub placed_at : Ok k ≡ place_answer s places p → k ≡ party_at s p
   placed_at h = the_value (place_asks s places p) (party_at s p) k h
+
+-- where it was found in a row is where it stands in what the row means
+pub in_row : {I : Type 0} (held : I → ℕ) (room : I → Means → ℕ) (s : Model) (row : List I) (p : ℕ) (r : Result ℕ Fault) → r ≡ place_answer s (length row) p → r ≡ place_answer s (length (row_of held room row)) p
+in_row held room s row p r h = h ∙ ap (λ n. place_answer s n p) (sym (length-map row (security_of held room)))
 
 -- ---- funding
 refused-room : (x : Security) (m : Means) (n : ℕ) (f : FundingRefused) → Err f ≡ place_funded x m n → Err (Room f) ≡ verdict (asks (leb n (x.room m)) (Room (record { means = m; amount = n; room = x.room m })) ∷ []) (min (x.held + n) most_held)
@@ -110,11 +115,6 @@ module _ (s : Model) (hs : List ℕ) (p : ℕ) where
   pub report-ok : (k : ℕ) → Ok k ≡ place_answer s (length hs) p → (r : Report) → r ≡ reported s hs p k → Ok r ≡ report_answer s hs p
   report-ok k h r is =
       ap Ok (is ∙ ap (reported s hs p) (placed_at s (length hs) p k h)) ∙ sym (verdict-goes (place_asks s (length hs) p) [] (party_at s p) k (reported s hs p (party_at s p)) (sym h))
-
-pub zeros-small : (n k : ℕ) → get_or (replicate n 0) k 0 ≤ 4294967295
-zeros-small zero k = omega arith
-zeros-small (suc n) zero = omega arith
-zeros-small (suc n) (suc k) = zeros-small n k
 
 -- ---- the run
 module _ (s : Model) (hs : List ℕ) (day minute : ℕ) (w : When) (moment : Ok w ≡ moment_answer s day minute) where

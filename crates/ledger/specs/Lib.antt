@@ -3,6 +3,7 @@ pub mod Faults
 pub mod Refusals
 pub mod Months
 pub mod Registries
+pub mod Charges
 pub mod Enrolment
 pub mod Model
 pub mod Raised

@@ -3,6 +3,7 @@ use Rattle.std.specs.Prelude.{ℕ, Bool, true, not, List, replicate, Some, None,
 use Rattle.std.specs.Option.{option_map}
 use Rattle.foundation.specs.Limits.{most_counter_parties}
 use Rattle.calendar.specs.Moments.{When, when, before}
+use Rattle.ledger.specs.Charges.{charges_in}
 use Rattle.ledger.specs.Registries.{Register, register_of, nobody}
 use Rattle.receivables.specs.Books.{Book, book_of, new_book}
 use Rattle.ledger.specs.declared.ledger.Ledger.{Ledger}
@@ -17,7 +18,7 @@ pub record Model : Type 0 where
   pub month : Option ℕ
 
 abbrev pub model_of : Ledger → Model
-model_of l = record { register = register_of l.registry; book = book_of l.receivables; charges = l.charges; moment = option_map when l.moment; month = l.month }
+model_of l = record { register = register_of l.registry; book = book_of l.receivables; charges = charges_in l.charges; moment = option_map when l.moment; month = l.month }
 
 abbrev pub new_model : ℕ → Model
 new_model account = record { register = nobody; book = new_book account; charges = replicate most_counter_parties 0; moment = None; month = None }

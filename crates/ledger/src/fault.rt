@@ -4,7 +4,7 @@ ghost use Rattle.ledger.specs.Faults.{number as number_of};
 ghost use Rattle.ledger.specs.Refusals.{refusal, named};
 ghost use Rattle.ledger.specs.declared.fault.Fault.TheVariants as fault;
 
-use security::FundingRefused;
+use security::{FundingRefused, UnknownMeans};
 
 #[derive(Clone, Copy)]
 pub enum Fault {
@@ -50,18 +50,7 @@ impl Fault {
     {
         match self {
             Fault::Room(refused) => Some(refused),
-            Fault::NoMoment
-            | Fault::Before
-            | Fault::Registry(_)
-            | Fault::Record(_)
-            | Fault::Split(_)
-            | Fault::Month
-            | Fault::DueDay
-            | Fault::Receivable(_)
-            | Fault::Remark
-            | Fault::Row
-            | Fault::Means
-            | Fault::Funding => None,
+            _ => None,
         }
     }
 }
@@ -103,5 +92,13 @@ impl From<FundingRefused> for Fault {
 
     fn from(value: FundingRefused) -> Fault {
         Fault::Room(value)
+    }
+}
+
+impl From<UnknownMeans> for Fault {
+    ghost from_gives = { λ e f. f ≡ fault.Means };
+
+    fn from(_: UnknownMeans) -> Fault {
+        Fault::Means
     }
 }

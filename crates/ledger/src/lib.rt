@@ -2,6 +2,7 @@
 #![tactic(auto)]
 
 mod answers;
+mod charges;
 mod fault;
 mod ledger;
 mod registry;

@@ -6,7 +6,8 @@ mod fault;
 
 pub use fault::Fault;
 
-// Numbers by position; `under` has the position of each participant's Counter-Party.
+// Numbers by position; `under` has the position of each participant's Counter-Party. Kept beside `participants`: a
+// month's table reads positions alone, and pairs would be copied apart into a buffer at each bill.
 #[derive(Drop, PartialEq)]
 pub struct Registry {
     counter_parties: Vec<u16>,

@@ -1,6 +1,8 @@
 -- Issuing invoices, one at a time. Assumes nothing.
 use Rattle.std.proofs.Common.{◌≡◌, ℕ, ◌+◌, ◌<◌, ◌≤◌, true, false, cond, ltb, List, [], ◌∷◌, ◌++◌, length, get_or, drop, sym, refl, ap, ◌∙◌, add-zero, arith, length-append}
 use Rattle.std.proofs.lemmas.List.{at_drop_more, at_drop_all, append_assoc, append-nil}
+use Rattle.std.specs.List.{count_by}
+use Rattle.std.proofs.lemmas.List.Recursion.{is_count_by}
 use Rattle.std.proofs.lemmas.Bool.{cond-true, cond-false, lt-ltb, le-ltb}
 use Rattle.receivables.specs.declared.charge.Charge.{Charge}
 use Rattle.receivables.specs.declared.invoice.Invoice.{Invoice}
@@ -23,7 +25,7 @@ module _ (cs : List Charge) (i : ℕ) (c : Charge) (here : c ≡ get_or cs i c) 
   pub positive-yes : 0 < c.cents → positive (drop i cs) ≡ 1 + positive (drop (i + 1) cs)
   positive-yes h = at_drop_more positive cs i c lt ∙ ap (λ x. positive (x ∷ drop (i + 1) cs)) (sym here) ∙ cond-true _ _ _ (lt-ltb 0 c.cents h)
 
-  pub positive-no : c.cents ≤ 0 → positive (drop i cs) ≡ positive (drop (i + 1) cs)
+  positive-no : c.cents ≤ 0 → positive (drop i cs) ≡ positive (drop (i + 1) cs)
   positive-no h = at_drop_more positive cs i c lt ∙ ap (λ x. positive (x ∷ drop (i + 1) cs)) (sym here) ∙ cond-false _ _ _ (le-ltb 0 c.cents h)
 
   issued-yes : (n due : ℕ) → 0 < c.cents → issued_from n due (drop i cs) ≡ issued n due c ∷ issued_from (n + 1) due (drop (i + 1) cs)
@@ -48,8 +50,8 @@ module _ (cs : List Charge) (i : ℕ) (c : Charge) (here : c ≡ get_or cs i c) 
   issuing-no b due whole h so =
       rw (sym (positive-no h), sym (issued-no b.next due h)) so
 
-pub positive-end : (cs : List Charge) (i : ℕ) → length cs ≤ i → positive (drop i cs) ≡ 0
-positive-end cs i h = at_drop_all positive cs i h
+pub positive-count : (cs : List Charge) → count_by (λ c. ltb 0 c.cents) cs ≡ positive cs
+positive-count cs = sym (is_count_by positive (λ c. ltb 0 c.cents) refl (λ c ds. refl) cs)
 
 pub issuing-all : (b : Book) (due : ℕ) (cs : List Charge) (i : ℕ) (whole : Book) → length cs ≤ i → after_issue b due (drop i cs) ≡ whole → b ≡ whole
 issuing-all b due cs i whole h so =

@@ -8,7 +8,7 @@ use Rattle.receivables.specs.declared.invoice.State.TheVariants.{Open, Short, Se
 use Rattle.receivables.specs.declared.invoice.Event.{Event}
 use Rattle.receivables.specs.declared.invoice.Event.TheVariants.{Payment, Draw, PastDue}
 use Rattle.receivables.specs.declared.invoice.Invoice.{Invoice}
-use Rattle.receivables.specs.Invoices.{told, told_in, lowered, is_settled, unsettled}
+use Rattle.receivables.specs.Invoices.{told, told_in, with_state, lowered, is_settled, unsettled}
 use Rattle.receivables.specs.Listed.{standing, listed}
 use Rattle.receivables.specs.Payments.{paid_on}
 use Rattle.receivables.specs.Run.{drawn_on, drawn_all, held_after, paid}
@@ -81,17 +81,18 @@ told-in-fine Settled v e q f = f
 pub told-fine : (v : Invoice) (e : Event) → Fine v → Fine (told v e)
 told-fine v e f = told-in-fine v.state v e refl f
 
-told-in-number : (t : State) (v : Invoice) (e : Event) → (told_in t v e).number ≡ v.number
-told-in-number Open v (Payment n) = refl
-told-in-number Open v (Draw n) = refl
-told-in-number Open v PastDue = refl
-told-in-number Short v (Payment n) = refl
-told-in-number Short v (Draw n) = refl
-told-in-number Short v PastDue = refl
-told-in-number Settled v e = refl
+-- an event changes the balance and the state alone
+pub told-in-rest : (t : State) (v : Invoice) (e : Event) → told_in t v e ≡ with_state v (told_in t v e).balance (told_in t v e).state
+told-in-rest Open v (Payment n) = refl
+told-in-rest Open v (Draw n) = refl
+told-in-rest Open v PastDue = refl
+told-in-rest Short v (Payment n) = refl
+told-in-rest Short v (Draw n) = refl
+told-in-rest Short v PastDue = refl
+told-in-rest Settled v e = refl
 
 pub told-number : (v : Invoice) (e : Event) → (told v e).number ≡ v.number
-told-number v e = told-in-number v.state v e
+told-number v e = ap (λ w. w.number) (told-in-rest v.state v e)
 
 -- each invoice of ws is the one of vs at its place, under the same number, and is fine
 abbrev pub Kept : List Invoice → List Invoice → Type 0
@@ -145,6 +146,6 @@ pub listed-long : (low high : ℕ) (vs : List Invoice) → Listed low high vs �
 listed-long low high [] l = omega (arith, l)
 listed-long low high (v ∷ vs) l = omega (arith, l.0, listed-long (v.number + 1) high vs l.2)
 
-pub numbers-from : (low low' high : ℕ) (vs : List Invoice) → low' ≤ low → Listed low high vs → AllByRecursion (λ u. low' ≤ u.number) vs
-numbers-from low low' high [] le l = tt
-numbers-from low low' high (v ∷ vs) le l = (omega (arith, l.0), numbers-from (v.number + 1) low' high vs (omega (arith, l.0)) l.2)
+pub numbers-above : (low n high : ℕ) (vs : List Invoice) → n < low → Listed low high vs → AllByRecursion (λ u. n < u.number) vs
+numbers-above low n high [] lt l = tt
+numbers-above low n high (v ∷ vs) lt l = (omega (arith, l.0), numbers-above (v.number + 1) n high vs (omega (arith, l.0)) l.2)

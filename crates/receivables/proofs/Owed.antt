@@ -1,32 +1,34 @@
--- What a Counter-Party owes, invoice by invoice. Assumes nothing.
-use Rattle.std.proofs.Common.{◌≡◌, ℕ, ◌+◌, ◌*◌, ◌<◌, ◌≤◌, Bool, true, false, cond, eqb, List, [], ◌∷◌, length, get_or, take, ap, ◌∙◌, arith, eq-eqb, ne_eqb}
-use Rattle.std.specs.List.{AllByRecursion}
-use Rattle.std.proofs.lemmas.List.Sums.{sum_by_more, sum_by-take-le}
+-- What is owed: the balances added up, of one Counter-Party or all. Assumes nothing.
+use Rattle.std.proofs.Common.{◌≡◌, ℕ, ◌+◌, ◌^◌, ◌<◌, ◌≤◌, Bool, true, false, cond, not, eqb, List, ◌∷◌, filter, sum_by, refl, arith}
 use Rattle.std.proofs.ByRecursion.{sum_by_le}
-use Rattle.std.proofs.lemmas.Bool.{cond-true, cond-false}
+use Rattle.std.proofs.lemmas.List.Recursion.{is_sum_by}
+use Rattle.std.proofs.lemmas.List.Filters.{sum_by-filter_both}
+use Rattle.std.proofs.lemmas.List.Sums.{sum_by-cons}
 use Rattle.receivables.specs.declared.invoice.Invoice.{Invoice}
-use Rattle.receivables.specs.Invoices.{nothing, owed_by}
+use Rattle.receivables.specs.Invoices.{balances, owed_by}
+use Rattle.receivables.proofs.Lists.{Listed, all_small, listed-long}
 
 module _ (party : ℕ) where
+  abbrev pub bills : Invoice → Bool
+  bills v = eqb v.billed party
+
   abbrev part : Invoice → ℕ
   part v = cond (eqb v.billed party) v.balance 0
 
-  small-part : (v : Invoice) → v.balance ≤ 4294967295 → part v ≤ 4294967295
-  small-part v h = go (eqb v.billed party) where
-    go : (b : Bool) → cond b v.balance 0 ≤ 4294967295
-    go true = h
-    go false = omega arith
+  abbrev own : List Invoice → ℕ
+  own vs = sum_by (λ v. v.balance) (filter bills vs)
 
-  small-parts : (vs : List Invoice) → AllByRecursion (λ v. v.balance ≤ 4294967295) vs → AllByRecursion (λ v. part v ≤ 4294967295) vs
-  small-parts [] h = tt
-  small-parts (v ∷ vs) h = (small-part v h.0, small-parts vs h.1)
+  own-cons : (v : Invoice) (vs : List Invoice) → own (v ∷ vs) ≡ part v + own vs
+  own-cons v vs =
+      elim (eqb v.billed party) as (λ b. sum_by (λ u. u.balance) (cond b (v ∷ filter bills vs) (filter bills vs)) ≡ cond b v.balance 0 + own vs)
+      [ true ↦ sum_by-cons (λ u. u.balance) v (filter bills vs) | false ↦ omega arith ]
 
-  module _ (vs : List Invoice) (i : ℕ) (lt : i < length vs) where
-    pub owed-own : (get_or vs i nothing).billed ≡ party → owed_by (take (i + 1) vs) party ≡ owed_by (take i vs) party + (get_or vs i nothing).balance
-    owed-own e = sum_by_more part vs i nothing lt ∙ ap (λ n. owed_by (take i vs) party + n) (cond-true _ _ 0 (eq-eqb _ _ e))
+  pub own-owed : (vs : List Invoice) → own vs ≡ owed_by vs party
+  own-owed = is_sum_by own part refl own-cons
 
-    pub owed-other : ((get_or vs i nothing).billed ≡ party → ⊥) → owed_by (take (i + 1) vs) party ≡ owed_by (take i vs) party
-    owed-other e = sum_by_more part vs i nothing lt ∙ ap (λ n. owed_by (take i vs) party + n) (cond-false _ (get_or vs i nothing).balance 0 (ne_eqb _ _ e)) ∙ omega arith
+  pub own-le : (vs : List Invoice) → own vs ≤ balances vs
+  own-le vs = omega (arith, sum_by-filter_both bills (λ v. not (bills v)) (λ _. refl) (λ v. v.balance) vs)
 
-  pub owed-fits : (vs : List Invoice) (i : ℕ) → length vs ≤ 4294967295 → AllByRecursion (λ v. v.balance ≤ 4294967295) vs → owed_by (take i vs) party ≤ 4294967295 * 4294967295
-  owed-fits vs i few small = omega (arith, sum_by-take-le part vs i, sum_by_le part 4294967295 vs (small-parts vs small), few)
+-- what is kept fits 64 bits
+pub balances-fit : (low high : ℕ) (vs : List Invoice) → high ≤ 4294967295 → Listed low high vs → balances vs < 2 ^ 64
+balances-fit low high vs few l = omega (arith, sum_by_le (λ v. v.balance) 4294967295 vs (all_small low high vs l), listed-long low high vs l)

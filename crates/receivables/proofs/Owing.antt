@@ -1,11 +1,11 @@
 -- What issuing, paying and a run do to what a Counter-Party owes. Assumes nothing.
-use Rattle.std.proofs.Common.{◌≡◌, ℕ, ◌+◌, ◌-◌, ◌<◌, ◌≤◌, Bool, true, false, cond, eqb, ltb, List, [], ◌∷◌, ◌++◌, map, length, get_or, Some, filter, sym, refl, ap, ◌∙◌, subst, inl, inr, arith}
+use Rattle.std.proofs.Common.{◌≡◌, ℕ, ◌+◌, ◌-◌, ◌<◌, ◌≤◌, Bool, true, false, cond, eqb, ltb, List, [], ◌∷◌, ◌++◌, map, length, get_or, Some, filter, sym, refl, ap, ◌∙◌, inl, inr, arith}
 use Rattle.std.specs.List.{AllByRecursion}
 use Rattle.std.proofs.lemmas.List.Sums.{sum_by-cons, sum_by-append}
-use Rattle.std.proofs.lemmas.Bool.{cond-true, cond-false, eq-eqb, ne_eqb, ltb-false}
+use Rattle.std.proofs.lemmas.Bool.{cases_eq, cond-true, cond-false, eq-eqb, ne_eqb, ltb-false}
 use Rattle.receivables.specs.declared.charge.Charge.{Charge}
 use Rattle.receivables.specs.declared.invoice.Event.{Event}
-use Rattle.receivables.specs.declared.invoice.Event.TheVariants.{Payment, Draw, PastDue}
+use Rattle.receivables.specs.declared.invoice.Event.TheVariants.{Payment}
 use Rattle.receivables.specs.declared.invoice.Invoice.{Invoice}
 use Rattle.receivables.specs.declared.invoice.State.{State}
 use Rattle.receivables.specs.declared.invoice.State.TheVariants.{Open, Short, Settled}
@@ -13,18 +13,12 @@ use Rattle.receivables.specs.Invoices.{told, told_in, unsettled, owed_by}
 use Rattle.receivables.specs.Issued.{issued, issued_from, charged_to}
 use Rattle.receivables.specs.Laws.{owed_at}
 use Rattle.receivables.specs.Payments.{balance_of, billed_of, counts_for, paid_on}
-use Rattle.receivables.proofs.Lists.{Standing, Listed, numbers-from}
-use Rattle.receivables.proofs.Payments.{others_same, all-later}
-use Rattle.receivables.proofs.RunLaws.{Clear, told-in-clear, standing-clear, same_or_not, swept-head, asks_none}
+use Rattle.receivables.proofs.Lists.{Standing, Listed, told-in-rest, numbers-above}
+use Rattle.receivables.proofs.Payments.{others_same}
+use Rattle.receivables.proofs.RunLaws.{Clear, told-in-clear, standing-clear, swept-head, asks_none}
 
 pub told-in-billed : (t : State) (v : Invoice) (e : Event) → (told_in t v e).billed ≡ v.billed
-told-in-billed Open v (Payment n) = refl
-told-in-billed Open v (Draw n) = refl
-told-in-billed Open v PastDue = refl
-told-in-billed Short v (Payment n) = refl
-told-in-billed Short v (Draw n) = refl
-told-in-billed Short v PastDue = refl
-told-in-billed Settled v e = refl
+told-in-billed t v e = ap (λ w. w.billed) (told-in-rest t v e)
 
 told-payment : (t : State) (v : Invoice) (n : ℕ) → v.state ≡ t → unsettled v ≡ true → (told_in t v (Payment n)).balance ≡ v.balance - n
 told-payment Open v n e u = refl
@@ -72,12 +66,12 @@ module _ (party : ℕ) where
 
   pub owed-less : (low high n amount : ℕ) (vs : List Invoice) → Listed low high vs → amount ≤ balance_of vs n → owed_by (filter unsettled (map (paid_on n amount) vs)) party + counts_for party (billed_of vs n) amount ≡ owed_by vs party
   owed-less low high n amount [] l enough = omega arith
-  owed-less low high n amount (v ∷ vs) l enough = elim (same_or_not v.number n) [ inl same ↦ here same | inr other ↦ there other (λ most. owed-less (v.number + 1) high n amount vs l.2 most) ] where
+  owed-less low high n amount (v ∷ vs) l enough = elim (cases_eq v.number n) [ inl same ↦ here same | inr other ↦ there other (λ most. owed-less (v.number + 1) high n amount vs l.2 most) ] where
     here : v.number ≡ n → owed_by (filter unsettled (map (paid_on n amount) (v ∷ vs))) party + counts_for party (billed_of (v ∷ vs) n) amount ≡ owed_by (v ∷ vs) party
     here same =
         let on : eqb v.number n ≡ true = eq-eqb v.number n same in
         let w : Invoice = told v (Payment amount) in
-        let rest = others_same n amount vs (subst (λ m. AllByRecursion (λ u. m < u.number) vs) same (all-later v.number vs (numbers-from (v.number + 1) (v.number + 1) high vs (omega arith) l.2))) in
+        let rest = others_same n amount vs (numbers-above (v.number + 1) n high vs (omega (arith, same)) l.2) in
         let list : map (paid_on n amount) (v ∷ vs) ≡ w ∷ vs = ap (λ u. u ∷ map (paid_on n amount) vs) (cond-true _ _ _ on) ∙ ap (λ us. w ∷ us) rest in
         let clear = told-in-clear v.state v (Payment amount) refl (standing-clear v l.1) in
         let owed = ap (λ us. owed_by (filter unsettled us) party) list ∙ swept-one w (filter unsettled vs) clear in
@@ -110,7 +104,7 @@ owed-there parties k (v ∷ vs) d lt placed =
     omega (arith, owed-there parties k vs d lt placed.1, owed-cons (get_or parties k 0) v vs, here)
   where
     here : cond (eqb v.position k) v.balance 0 ≡ cond (eqb v.billed (get_or parties k 0)) v.balance 0
-    here = elim (same_or_not v.position k) [
+    here = elim (cases_eq v.position k) [
       | inl same ↦
           (cond-true (eqb v.position k) v.balance 0 (eq-eqb _ _ same)
           ∙ sym (cond-true (eqb v.billed (get_or parties k 0)) v.balance 0 (eq-eqb _ _ (sym placed.0.1 ∙ ap (λ i. get_or parties i 0) same))))

@@ -1,47 +1,44 @@
 -- The invoice that a payment names. Assumes nothing.
-use Rattle.std.proofs.Common.{◌≡◌, ℕ, zero, suc, ◌+◌, ◌-◌, ◌<◌, ◌≤◌, Bool, true, false, ◌&&◌, ◌||◌, eqb, leb, List, [], ◌∷◌, map, length, get_or, set, Some, None, Ok, Err, sym, refl, ap, ◌∙◌, subst, arith, eqb-true}
+use Rattle.std.proofs.Common.{◌≡◌, ℕ, zero, suc, ◌+◌, ◌-◌, ◌<◌, ◌≤◌, Bool, true, false, ◌&&◌, eqb, ltb, leb, cond, List, [], ◌∷◌, map, length, get_or, set, position, Some, None, Ok, Err, sym, refl, ap, ◌∙◌, arith, eqb-true}
 use Rattle.std.specs.List.{AllByRecursion}
-use Rattle.std.proofs.lemmas.Bool.{cond-true, cond-false, ne_eqb, eq-eqb}
-use Rattle.foundation.specs.Counting.{first}
-use Rattle.foundation.proofs.Firsts.{First, first-is}
+use Rattle.std.proofs.lemmas.Bool.{cond-true, cond-false, ne_eqb, eq-eqb, ltb-false}
+use Rattle.std.specs.List.{position_or_len}
+use Rattle.std.proofs.lemmas.List.Quantifiers.{position-Some}
+use Rattle.std.proofs.lemmas.List.Recursion.{found_at, or_at, or_from_places}
+use Rattle.std.proofs.lemmas.List.Sums.{fails_before_first}
 use Rattle.receivables.specs.declared.fault.Fault.TheVariants as fault
 use Rattle.receivables.specs.declared.invoice.Event.TheVariants.{Payment}
 use Rattle.receivables.specs.declared.invoice.Invoice.{Invoice}
 use Rattle.receivables.specs.Books.{Book}
 use Rattle.receivables.specs.Invoices.{told, nothing}
 use Rattle.receivables.specs.Payments.{has_number, balance_of, pay_answer, paid_on}
-use Rattle.receivables.proofs.Lists.{Listed, numbers-from}
+use Rattle.receivables.proofs.Lists.{Listed, numbers-above}
 
-abbrev pub numbered_at : List Invoice → ℕ → ℕ → Bool
-numbered_at vs n k = eqb (get_or vs k nothing).number n
+abbrev pub has_this : ℕ → Invoice → Bool
+has_this n v = eqb v.number n
 
 -- ---- what is found
-found : (vs : List Invoice) (n k : ℕ) → First (numbered_at vs n) (length vs) (Some k) → (has_number vs n ≡ true) × (balance_of vs n ≡ (get_or vs k nothing).balance)
-found [] n k f = absurd (omega (arith, f.0))
-found (v ∷ vs) n zero f = (ap (λ b. b || has_number vs n) f.1, cond-true _ _ _ f.1)
-found (v ∷ vs) n (suc k) f =
-    let off : eqb v.number n ≡ false = f.2 0 (omega arith) in
-    let h = found vs n k (omega (arith, f.0), f.1, λ e lt. f.2 (suc e) (omega arith)) in
-    (ap (λ b. b || has_number vs n) off ∙ h.0, cond-false _ _ _ off ∙ h.1)
-
-missing : (vs : List Invoice) (n : ℕ) → First (numbered_at vs n) (length vs) None → has_number vs n ≡ false
-missing [] n f = refl
-missing (v ∷ vs) n f = ap (λ b. b || has_number vs n) (f 0 (omega arith)) ∙ missing vs n (λ e lt. f (suc e) (omega arith))
-
 pub record Found (vs : List Invoice) (n k : ℕ) : Type 0 where
   pub within : k < length vs
   pub number : (get_or vs k nothing).number ≡ n
   pub has : has_number vs n ≡ true
   pub balance : balance_of vs n ≡ (get_or vs k nothing).balance
 
-pub found_at : (vs : List Invoice) (n k : ℕ) → Some k ≡ first (numbered_at vs n) (length vs) → Found vs n k
-found_at vs n k e =
-    let f : First (numbered_at vs n) (length vs) (Some k) = subst (First (numbered_at vs n) (length vs)) (sym e) (first-is (numbered_at vs n) (length vs)) in
-    let h = found vs n k f in
-    record { within = f.0; number = eqb-true (get_or vs k nothing).number n f.1; has = h.0; balance = h.1 }
+pub found : (vs : List Invoice) (n k : ℕ) → position (has_this n) vs ≡ Some k → Found vs n k
+found vs n k e =
+    let p = position-Some (has_this n) vs k nothing e in
+    record {
+      within = p.0;
+      number = eqb-true _ _ p.1;
+      has = or_at (λ ws. has_number ws n) (has_this n) refl (λ w ws. refl) vs k nothing p.0 p.1;
+      balance = found_at (λ ws. balance_of ws n) (has_this n) (λ w. w.balance) 0 refl (λ w ws. refl) vs k nothing p.0 p.2 p.1;
+    }
 
-pub not_found : (vs : List Invoice) (n : ℕ) → None ≡ first (numbered_at vs n) (length vs) → has_number vs n ≡ false
-not_found vs n e = missing vs n (subst (First (numbered_at vs n) (length vs)) (sym e) (first-is (numbered_at vs n) (length vs)))
+pub not_found : (vs : List Invoice) (n : ℕ) → position (has_this n) vs ≡ None → has_number vs n ≡ false
+not_found vs n e = or_from_places (λ ws. has_number ws n) (has_this n) refl (λ w ws. refl) vs nothing (λ k lt. fails_before_first (has_this n) vs k nothing (go (ltb (position_or_len (has_this n) vs) (length vs)) refl e lt)) where
+  go : {k : ℕ} (b : Bool) → ltb (position_or_len (has_this n) vs) (length vs) ≡ b → cond b (Some (position_or_len (has_this n) vs)) None ≡ None → k < length vs → k < position_or_len (has_this n) vs
+  go true t some lt = cc
+  go false t none lt = omega (arith, ltb-false _ _ t)
 
 -- ---- the answers
 module _ (b : Book) (n account amount : ℕ) where
@@ -70,14 +67,10 @@ number_at low high [] k l lt = absurd (omega arith)
 number_at low high (v ∷ vs) zero l lt = l.0
 number_at low high (v ∷ vs) (suc k) l lt = omega (arith, l.0, number_at (v.number + 1) high vs k l.2 (omega arith))
 
-pub all-later : (n : ℕ) (vs : List Invoice) → AllByRecursion (λ u. n + 1 ≤ u.number) vs → AllByRecursion (λ u. n < u.number) vs
-all-later n [] a = tt
-all-later n (u ∷ vs) a = (omega (arith, a.0), all-later n vs a.1)
-
 pub paid-is : (low high n amount : ℕ) (vs : List Invoice) (k : ℕ) → Listed low high vs → k < length vs → (get_or vs k nothing).number ≡ n → set vs k (told (get_or vs k nothing) (Payment amount)) ≡ map (paid_on n amount) vs
 paid-is low high n amount [] k l lt e = absurd (omega arith)
 paid-is low high n amount (v ∷ vs) zero l lt e =
-    ap (λ ws. told v (Payment amount) ∷ ws) (sym (others_same n amount vs (subst (λ m. AllByRecursion (λ u. m < u.number) vs) e (all-later v.number vs (numbers-from (v.number + 1) (v.number + 1) high vs (omega arith) l.2)))))
+    ap (λ ws. told v (Payment amount) ∷ ws) (sym (others_same n amount vs (numbers-above (v.number + 1) n high vs (omega (arith, e)) l.2)))
     ∙ ap (λ w. w ∷ map (paid_on n amount) vs) (sym (cond-true _ _ _ (eq-eqb v.number n e)))
 paid-is low high n amount (v ∷ vs) (suc k) l lt e =
     let later = number_at (v.number + 1) high vs k l.2 (omega arith) in

@@ -1,8 +1,9 @@
 -- What a past-due run leaves is what its law says. Assumes nothing.
-use Rattle.std.proofs.Common.{◌≡◌, ℕ, zero, suc, ◌+◌, ◌-◌, ◌<◌, ◌≤◌, min, Bool, true, false, cond, not, eqb, ltb, ◌⊎◌, List, [], ◌∷◌, get_or, set, sum, filter, sym, refl, ap, ◌∙◌, inl, inr, arith}
+use Rattle.std.proofs.Common.{◌≡◌, ℕ, zero, suc, ◌+◌, ◌-◌, ◌<◌, ◌≤◌, min, Bool, true, false, cond, not, eqb, ltb, List, [], ◌∷◌, get_or, set, sum, filter, sym, refl, ap, ◌∙◌, inl, inr, arith}
 use Rattle.std.specs.List.{AllByRecursion}
+use Rattle.std.proofs.lemmas.List.{get_or-set_other}
 use Rattle.std.proofs.lemmas.List.Sums.{sum_by-cons}
-use Rattle.std.proofs.lemmas.Bool.{cases_lt, cond-true, cond-false, eq-eqb, ne_eqb, ltb-false}
+use Rattle.std.proofs.lemmas.Bool.{cases_eq, cond-true, cond-false, eq-eqb, ne_eqb, ltb-false}
 use Rattle.foundation.proofs.Firsts.{true-false}
 use Rattle.foundation.specs.Limits.{due_minute}
 use Rattle.calendar.specs.Moments.{When, before}
@@ -15,26 +16,14 @@ use Rattle.receivables.specs.Invoices.{told, told_in, lowered, is_settled, unset
 use Rattle.receivables.specs.Laws.{owed_at, owed_past, RunLaw}
 use Rattle.receivables.specs.Payments.{balance_of}
 use Rattle.receivables.specs.Run.{paid, held_after, drawn_on, helds, drawn_all, drawn, owed, outcome}
-use Rattle.receivables.proofs.Lists.{Standing, Listed, told-fine, told-number, numbers-from}
+use Rattle.receivables.proofs.Lists.{Standing, Listed, told-fine, told-in-rest, told-number, numbers-above}
 
 -- ---- what an event keeps
 pub told-in-position : (t : State) (v : Invoice) (e : Event) → (told_in t v e).position ≡ v.position
-told-in-position Open v (Payment n) = refl
-told-in-position Open v (Draw n) = refl
-told-in-position Open v PastDue = refl
-told-in-position Short v (Payment n) = refl
-told-in-position Short v (Draw n) = refl
-told-in-position Short v PastDue = refl
-told-in-position Settled v e = refl
+told-in-position t v e = ap (λ w. w.position) (told-in-rest t v e)
 
 told-in-due : (t : State) (v : Invoice) (e : Event) → (told_in t v e).due_day ≡ v.due_day
-told-in-due Open v (Payment n) = refl
-told-in-due Open v (Draw n) = refl
-told-in-due Open v PastDue = refl
-told-in-due Short v (Payment n) = refl
-told-in-due Short v (Draw n) = refl
-told-in-due Short v PastDue = refl
-told-in-due Settled v e = refl
+told-in-due t v e = ap (λ w. w.due_day) (told-in-rest t v e)
 
 pub drawn-position : (hs : List ℕ) (v : Invoice) → (drawn_on hs v).position ≡ v.position
 drawn-position hs v = told-in-position _ (told v (Draw (paid hs v))) PastDue ∙ told-in-position _ v (Draw (paid hs v))
@@ -93,25 +82,15 @@ held-here [] i b = omega arith
 held-here (h ∷ hs) zero b = refl
 held-here (h ∷ hs) (suc i) b = held-here hs i b
 
-held-there : (hs : List ℕ) (i j x : ℕ) → (i ≡ j → ⊥) → get_or (set hs i x) j 0 ≡ get_or hs j 0
-held-there [] i j x other = refl
-held-there (h ∷ hs) zero zero x other = absurd (other refl)
-held-there (h ∷ hs) zero (suc j) x other = refl
-held-there (h ∷ hs) (suc i) zero x other = refl
-held-there (h ∷ hs) (suc i) (suc j) x other = held-there hs i j x (λ e. other (ap suc e))
-
 sum-after : (hs : List ℕ) (i b : ℕ) → sum (set hs i (get_or hs i 0 - b)) + min b (get_or hs i 0) ≡ sum hs
 sum-after [] i b = omega arith
 sum-after (h ∷ hs) zero b = omega (arith, sum_by-cons (λ x. x) (h - b) hs, sum_by-cons (λ x. x) h hs)
 sum-after (h ∷ hs) (suc i) b = omega (arith, sum_by-cons (λ x. x) h (set hs i (get_or hs i 0 - b)), sum_by-cons (λ x. x) h hs, sum-after hs i b)
 
-pub same_or_not : (i j : ℕ) → (i ≡ j) ⊎ (i ≡ j → ⊥)
-same_or_not i j = elim (cases_lt i j) [ inl k ↦ inr (λ e. omega arith) | inr k ↦ elim (cases_lt j i) [ inl l ↦ inr (λ e. omega arith) | inr l ↦ inl (omega arith) ] ]
-
 module _ (past : Invoice → Bool) where
   -- what a draw moves at a place: held falls by what the balance falls by
   one-draw : (hs : List ℕ) (v : Invoice) (j : ℕ) → Standing v → get_or (held_after hs v) j 0 + cond (eqb v.position j) v.balance 0 ≡ get_or hs j 0 + cond (eqb (drawn_on hs v).position j) (drawn_on hs v).balance 0
-  one-draw hs v j s = elim (same_or_not v.position j) [
+  one-draw hs v j s = elim (cases_eq v.position j) [
     | inl same ↦
         (let on : eqb v.position j ≡ true = eq-eqb v.position j same in
         let on' : eqb (drawn_on hs v).position j ≡ true = eq-eqb (drawn_on hs v).position j (drawn-position hs v ∙ same) in
@@ -122,7 +101,7 @@ module _ (past : Invoice → Bool) where
     | inr other ↦
         (let off : eqb v.position j ≡ false = ne_eqb v.position j other in
         let off' : eqb (drawn_on hs v).position j ≡ false = ne_eqb (drawn_on hs v).position j (λ e. other (sym (drawn-position hs v) ∙ e)) in
-        omega (arith, held-there hs v.position j (get_or hs v.position 0 - v.balance) other, cond-false (eqb v.position j) v.balance 0 off, cond-false (eqb (drawn_on hs v).position j) (drawn_on hs v).balance 0 off'))
+        omega (arith, get_or-set_other hs v.position j (get_or hs v.position 0 - v.balance) 0 (λ e. other (sym e)), cond-false (eqb v.position j) v.balance 0 off, cond-false (eqb (drawn_on hs v).position j) (drawn_on hs v).balance 0 off'))
   ]
 
   each : (low high : ℕ) (vs : List Invoice) (hs : List ℕ) (j : ℕ) → Listed low high vs → get_or (helds past vs hs) j 0 + owed_at j vs ≡ get_or hs j 0 + owed_at j (drawn_all past vs hs)
@@ -146,9 +125,9 @@ module _ (past : Invoice → Bool) where
   falls (v ∷ vs) hs j =
       let late = falls vs (held_after hs v) j in
       let early = falls vs hs j in
-      let step : get_or (held_after hs v) j 0 ≤ get_or hs j 0 = elim (same_or_not v.position j) [
+      let step : get_or (held_after hs v) j 0 ≤ get_or hs j 0 = elim (cases_eq v.position j) [
         | inl same ↦ omega (arith, held-here hs v.position v.balance, ap (λ k. get_or (held_after hs v) k 0) same, ap (λ k. get_or hs k 0) same)
-        | inr other ↦ omega (arith, held-there hs v.position j (get_or hs v.position 0 - v.balance) other)
+        | inr other ↦ omega (arith, get_or-set_other hs v.position j (get_or hs v.position 0 - v.balance) 0 (λ e. other (sym e)))
       ] in
       elim (past v) as (λ b. get_or (helds past vs (cond b (held_after hs v) hs)) j 0 ≤ get_or hs j 0) [ true ↦ omega (arith, late, step) | false ↦ omega (arith, early) ]
 
@@ -221,10 +200,6 @@ module _ (past : Invoice → Bool) where
     passed u lt = elim (unsettled w) as (λ b. balance_of (cond b (w ∷ rest) rest) u.number ≡ balance_of rest u.number)
         [ true ↦ cond-false _ _ _ (ne_eqb w.number u.number (λ e. omega arith)) | false ↦ refl ]
 
-  all_above : (n m : ℕ) (vs : List Invoice) → n ≡ m → AllByRecursion (λ u. m + 1 ≤ u.number) vs → AllByRecursion (λ u. n < u.number) vs
-  all_above n m [] e a = tt
-  all_above n m (u ∷ vs) e a = (omega (arith, a.0), all_above n m vs e a.1)
-
   spared : (low high : ℕ) (vs : List Invoice) (hs : List ℕ) → Listed low high vs → AllByRecursion (λ v. past v ≡ false → balance_of (filter unsettled (drawn_all past vs hs)) v.number ≡ v.balance) vs
   spared low high [] hs l = tt
   spared low high (v ∷ vs) hs l =
@@ -232,7 +207,7 @@ module _ (past : Invoice → Bool) where
       let ks : List ℕ = cond (past v) (held_after hs v) hs in
       let rest : List Invoice = filter unsettled (drawn_all past vs ks) in
       let number : w.number ≡ v.number = elim (past v) as (λ b. (cond b (drawn_on hs v) v).number ≡ v.number) [ true ↦ drawn-number hs v | false ↦ refl ] in
-      let above = all_above w.number v.number vs number (numbers-from (v.number + 1) (v.number + 1) high vs (omega arith) l.2) in
+      let above = numbers-above (v.number + 1) w.number high vs (omega (arith, number)) l.2 in
       ((λ off. here off rest), skip w rest vs above (spared (v.number + 1) high vs ks l.2))
     where
       here : past v ≡ false → (rest : List Invoice) → balance_of (cond (unsettled (cond (past v) (drawn_on hs v) v)) (cond (past v) (drawn_on hs v) v ∷ rest) rest) v.number ≡ v.balance

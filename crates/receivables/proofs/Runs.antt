@@ -1,13 +1,14 @@
 -- How far a past-due run has come, in a loop: what is left of the list, from the amounts now held, gives what the whole gives. Assumes nothing.
-use Rattle.std.proofs.Common.{◌≡◌, ℕ, ◌+◌, ◌*◌, ◌<◌, ◌≤◌, Bool, true, false, cond, List, [], ◌∷◌, ◌++◌, length, get_or, take, drop, set, sym, refl, ap, ◌∙◌, subst, append_assoc, add-zero, add_assoc, mul-le-mul_left, zero-add, arith}
+use Rattle.std.proofs.Common.{◌≡◌, ℕ, ◌+◌, ◌<◌, ◌≤◌, Bool, true, false, cond, List, [], ◌∷◌, ◌++◌, length, get_or, take, drop, set, sym, refl, ap, ◌∙◌, subst, append_assoc, add-zero, add_assoc, zero-add, arith}
 use Rattle.std.proofs.lemmas.List.{take_more_set, drop_more, drop-set-lt, length-set, set-get_or, take_all, drop_all, append-nil, get_or_default}
+use Rattle.std.proofs.lemmas.List.Sums.{sum_by-cons}
 use Rattle.std.proofs.ByRecursion.{All-drop}
 use Rattle.receivables.specs.declared.invoice.State.{State}
 use Rattle.receivables.specs.declared.invoice.State.TheVariants.{Open, Short, Settled}
 use Rattle.receivables.specs.declared.invoice.Invoice.{Invoice}
 use Rattle.receivables.specs.declared.invoice.Event.{Event}
 use Rattle.receivables.specs.declared.invoice.Event.TheVariants.{Payment, Draw, PastDue}
-use Rattle.receivables.specs.Invoices.{told, told_in, nothing}
+use Rattle.receivables.specs.Invoices.{balances, told, told_in, nothing}
 use Rattle.std.specs.List.{AllByRecursion}
 use Rattle.receivables.specs.Run.{paid, held_after, drawn_on, helds, drawn_all, drawn, owed}
 
@@ -92,7 +93,7 @@ module _ {past : Invoice → Bool} {vs : List Invoice} {hs : List ℕ} {i : ℕ}
       (subst (AllByRecursion P) n (All-drop P i vs a)).0
 
 -- no event raises a balance
-pub told-in-less : (t : State) (v : Invoice) (e : Event) → (told_in t v e).balance ≤ v.balance
+told-in-less : (t : State) (v : Invoice) (e : Event) → (told_in t v e).balance ≤ v.balance
 told-in-less Open v (Payment n) = omega arith
 told-in-less Open v (Draw n) = omega arith
 told-in-less Open v PastDue = omega arith
@@ -101,33 +102,28 @@ told-in-less Short v (Draw n) = omega arith
 told-in-less Short v PastDue = omega arith
 told-in-less Settled v e = omega arith
 
-pub drawn-on-less : (hs : List ℕ) (v : Invoice) → (drawn_on hs v).balance ≤ v.balance
+drawn-on-less : (hs : List ℕ) (v : Invoice) → (drawn_on hs v).balance ≤ v.balance
 drawn-on-less hs v =
     let w : Invoice = told v (Draw (paid hs v)) in
     omega (arith, told-in-less v.state v (Draw (paid hs v)), told-in-less w.state w PastDue)
 
 module _ (past : Invoice → Bool) where
-  pub drawn-small : (vs : List Invoice) (hs : List ℕ) → AllByRecursion (λ v. v.balance ≤ 4294967295) vs → drawn past vs hs ≤ 4294967295 * length vs
-  drawn-small [] hs a = omega arith
-  drawn-small (v ∷ vs) hs a =
-      let later = drawn-small vs (cond (past v) (held_after hs v) hs) a.1 in
-      let here : cond (past v) (paid hs v) 0 ≤ 4294967295 = (elim (past v) as (λ b. cond b (paid hs v) 0 ≤ 4294967295) [ true ↦ omega (arith, a.0) | false ↦ omega arith ]) in
-      omega arith
+  drawn-le : (vs : List Invoice) (hs : List ℕ) → drawn past vs hs ≤ balances vs
+  drawn-le [] hs = omega arith
+  drawn-le (v ∷ vs) hs =
+      let here : cond (past v) (paid hs v) 0 ≤ v.balance = (elim (past v) as (λ b. cond b (paid hs v) 0 ≤ v.balance) [ true ↦ omega arith | false ↦ omega arith ]) in
+      omega (arith, drawn-le vs (cond (past v) (held_after hs v) hs), sum_by-cons (λ u. u.balance) v vs)
 
-  pub owed_small : (vs : List Invoice) (hs : List ℕ) → AllByRecursion (λ v. v.balance ≤ 4294967295) vs → owed past vs hs ≤ 4294967295 * length vs
-  owed_small [] hs a = omega arith
-  owed_small (v ∷ vs) hs a =
-      let later = owed_small vs (cond (past v) (held_after hs v) hs) a.1 in
-      let here : cond (past v) (drawn_on hs v).balance 0 ≤ 4294967295 = (elim (past v) as (λ b. cond b (drawn_on hs v).balance 0 ≤ 4294967295) [ true ↦ omega (arith, a.0, drawn-on-less hs v) | false ↦ omega arith ]) in
-      omega arith
+  owed-le : (vs : List Invoice) (hs : List ℕ) → owed past vs hs ≤ balances vs
+  owed-le [] hs = omega arith
+  owed-le (v ∷ vs) hs =
+      let here : cond (past v) (drawn_on hs v).balance 0 ≤ v.balance = (elim (past v) as (λ b. cond b (drawn_on hs v).balance 0 ≤ v.balance) [ true ↦ drawn-on-less hs v | false ↦ omega arith ]) in
+      omega (arith, owed-le vs (cond (past v) (held_after hs v) hs), sum_by-cons (λ u. u.balance) v vs)
 
--- what was drawn and is owed so far is no more than the whole run gives, and that fits 64 bits
-module _ {past : Invoice → Bool} {vs : List Invoice} {hs : List ℕ} {i : ℕ} {ws : List Invoice} {ks : List ℕ} {d o : ℕ} (s : Going past vs hs i ws ks d o) (few : length vs ≤ 4294967295) (a : AllByRecursion (λ v. v.balance ≤ 4294967295) vs) where
-  most : 4294967295 * length vs ≤ 4294967295 * 4294967295
-  most = mul-le-mul_left 4294967295 few
+-- neither what was drawn so far nor what is owed so far is above all balances
+module _ {past : Invoice → Bool} {vs : List Invoice} {hs : List ℕ} {i : ℕ} {ws : List Invoice} {ks : List ℕ} {d o : ℕ} (s : Going past vs hs i ws ks d o) where
+  pub drawn-within : d ≤ balances vs
+  drawn-within = omega (arith, drawn-le past vs hs, s.paid_so)
 
-  pub drawn-fits : d < 18446744073709551616
-  drawn-fits = omega (arith, drawn-small past vs hs a, s.paid_so, most)
-
-  pub owed-fits : o < 18446744073709551616
-  owed-fits = omega (arith, owed_small past vs hs a, s.owed_so, most)
+  pub owed-within : o ≤ balances vs
+  owed-within = omega (arith, owed-le past vs hs, s.owed_so)

@@ -1,5 +1,5 @@
 -- What becomes of an invoice by each event, and when it is past due. Assumes nothing.
-use Rattle.std.specs.Prelude.{ℕ, ◌-◌, Bool, true, false, cond, not, List, sum_by, ◌==◌, nat_lt}
+use Rattle.std.specs.Prelude.{ℕ, ◌-◌, Bool, true, false, cond, not, List, sum_by, ◌==◌, nat_lt, codes}
 use Rattle.foundation.specs.Limits.{due_minute}
 use Rattle.calendar.specs.Moments.{When, before}
 use Rattle.receivables.specs.declared.invoice.State.{State}
@@ -35,12 +35,22 @@ is_settled Open = false
 is_settled Short = false
 is_settled Settled = true
 
+-- how a state is printed
+abbrev pub state_name : State → List ℕ
+state_name Open = codes "open"
+state_name Short = codes "short"
+state_name Settled = codes "settled"
+
 abbrev pub unsettled : Invoice → Bool
 unsettled v = not (is_settled v.state)
 
 -- past due after minute 1,020 of the due day
 abbrev pub is_past_due : When → Invoice → Bool
 is_past_due at v = before (record { day = v.due_day; minute = due_minute }) at
+
+-- what is owed on all invoices together
+abbrev pub balances : List Invoice → ℕ
+balances vs = sum_by (λ v. v.balance) vs
 
 -- what a Counter-Party owes on its invoices
 abbrev pub owed_by : List Invoice → ℕ → ℕ

@@ -1,9 +1,8 @@
 // Draws on a row of instruments for past-due invoices.
-ghost use Rattle.std.specs.Prelude.{◌≡◌, ℕ, ◌-◌, ◌*◌, ◌≤◌, min, map, length, ◌≢◌, slice_index, slice_index_or, slice_set};
-ghost use Rattle.std.specs.List.{AllByRecursion};
+ghost use Rattle.std.specs.Prelude.{◌≡◌, ℕ, ◌-◌, ◌^◌, ◌<◌, min, map, slice_index, slice_index_or, slice_set};
 ghost use Rattle.calendar.specs.Moments.{when};
-ghost use Rattle.security.specs.declared.means.Means.{Means};
-ghost use Rattle.receivables.specs.Invoices.{is_past_due};
+ghost use Rattle.security.specs.Rows.{NoRoomFalls, OnlyAt};
+ghost use Rattle.receivables.specs.Invoices.{balances, is_past_due};
 ghost use Rattle.receivables.specs.Laws.{Untouched};
 ghost use Rattle.receivables.specs.Run.{paid, held_after, drawn_on, drawn_all, helds, outcome};
 
@@ -22,13 +21,12 @@ pub struct Outcome {
 fn draw_at<I: Instrument + Copy>(row: &mut [I], place: usize, n: u64) -> u64
     ensures paid { result ≡ min n (slice_index (map I.held row.old) place) }
     ensures helds { map I.held row.new ≡ slice_set (map I.held row.old) place (slice_index (map I.held row.old) place - n) }
-    ensures others { (j : ℕ) (d : I) → (j ≢ place) → slice_index_or row.new j d ≡ slice_index_or row.old j d }
-    ensures rooms { (j : ℕ) (d : I) (m : Means) → I.room (slice_index_or row.old j d) m ≤ I.room (slice_index_or row.new j d) m }
+    ensures others { OnlyAt place row.old row.new }
+    ensures rooms { NoRoomFalls I.room row.old row.new }
 {
-    if place >= row.len() {
+    let Some(mut instrument) = row.get(place).copied() else {
         return 0;
-    }
-    let mut instrument = row[place];
+    };
     let paid = instrument.draw(n);
     row[place] = instrument;
     paid
@@ -39,8 +37,8 @@ fn collect<I: Instrument + Copy>(invoice: &mut Invoice, row: &mut [I]) -> u64
     ensures paid { result ≡ paid (map I.held row.old) invoice.old }
     ensures invoice { invoice.new ≡ drawn_on (map I.held row.old) invoice.old }
     ensures helds { map I.held row.new ≡ held_after (map I.held row.old) invoice.old }
-    ensures others { (j : ℕ) (d : I) → (j ≢ invoice.old.position) → slice_index_or row.new j d ≡ slice_index_or row.old j d }
-    ensures rooms { (j : ℕ) (d : I) (m : Means) → I.room (slice_index_or row.old j d) m ≤ I.room (slice_index_or row.new j d) m }
+    ensures others { OnlyAt invoice.old.position row.old row.new }
+    ensures rooms { NoRoomFalls I.room row.old row.new }
 {
     let paid = draw_at(row, invoice.position, invoice.balance);
     invoice.tell(Event::Draw(paid));
@@ -54,16 +52,16 @@ pub(crate) fn draw_all<I: Instrument + Copy>(
     at: Moment,
     row: &mut [I],
 ) -> Outcome
-    requires few { length list.old ≤ 4294967295 }
-    requires small { AllByRecursion (λ v. v.balance ≤ 4294967295) list.old }
+    requires { balances list.old < 2 ^ 64 }
     ensures outcome { result ≡ outcome (is_past_due (when at)) list.old (map I.held row.old) }
     ensures list { list.new ≡ drawn_all (is_past_due (when at)) list.old (map I.held row.old) }
     ensures helds { map I.held row.new ≡ helds (is_past_due (when at)) list.old (map I.held row.old) }
     ensures others { (j : ℕ) (d : I) → Untouched (is_past_due (when at)) j list.old → slice_index_or row.new j d ≡ slice_index_or row.old j d }
-    ensures rooms { (j : ℕ) (d : I) (m : Means) → I.room (slice_index_or row.old j d) m ≤ I.room (slice_index_or row.new j d) m }
+    ensures rooms { NoRoomFalls I.room row.old row.new }
 {
     let mut drawn = 0;
     let mut owed = 0;
+    // Each draw changes the row that the next one reads.
     for invoice in list.iter_mut() {
         if invoice.is_past_due(at) {
             drawn += collect(invoice, row);

@@ -4,21 +4,16 @@ ghost use Rattle.receivables.specs.Faults.{number as number_of};
 
 #[derive(Clone, Copy, PartialEq, Eq, Debug)]
 pub enum Fault {
-    Places,
-    Number,
-    Account,
-    Amount,
+    Places = 23,
+    Number = 25,
+    Account = 26,
+    Amount = 27,
 }
 
 impl Fault {
     pub fn number(self) -> u8
         ensures { result ≡ number_of self }
     {
-        match self {
-            Fault::Places => 23,
-            Fault::Number => 25,
-            Fault::Account => 26,
-            Fault::Amount => 27,
-        }
+        self as u8
     }
 }

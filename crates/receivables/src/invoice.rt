@@ -1,16 +1,29 @@
 // An invoice, and what a payment, a draw or the passing of its due day does to it.
-ghost use Rattle.std.specs.Prelude.{◌≡◌};
+ghost use Rattle.std.specs.Prelude.{◌≡◌, Some};
 ghost use Rattle.calendar.specs.Moments.{when};
-ghost use Rattle.receivables.specs.Invoices.{told, is_settled, is_past_due};
+ghost use Rattle.receivables.specs.Invoices.{told, is_settled, is_past_due, state_name};
 
 use calendar::Moment;
 use foundation::DUE_MINUTE;
+use std::fmt;
 
 #[derive(Clone, Copy, PartialEq, Eq, Debug)]
 pub enum State {
     Open,
     Short,
     Settled,
+}
+
+impl fmt::Display for State {
+    ghost output = { λ state. Some (state_name state) };
+
+    fn fmt<W: fmt::Write>(&self, f: &mut fmt::Formatter<W>) -> fmt::Result {
+        f.write_str(match self {
+            State::Open => "open",
+            State::Short => "short",
+            State::Settled => "settled",
+        })
+    }
 }
 
 #[derive(Clone, Copy)]
@@ -52,13 +65,13 @@ impl Invoice {
     pub fn is_settled(&self) -> bool
         ensures { result ≡ is_settled self.now.state }
     {
-        matches!(self.state, State::Settled)
+        self.state == State::Settled
     }
 
     // 17:00 of the due day itself is not past due.
     pub fn is_past_due(&self, at: Moment) -> bool
         ensures { result ≡ is_past_due (when at) self.now }
     {
-        self.due_day < at.day() || self.due_day == at.day() && at.minute() > DUE_MINUTE
+        (self.due_day, DUE_MINUTE) < (at.day(), at.minute())
     }
 }

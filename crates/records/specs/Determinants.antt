@@ -1,6 +1,9 @@
 -- The sixteen determinants: number, unit, group, and how a sum enters its group. Assumes nothing.
-use Rattle.std.specs.Prelude.{ℕ, ◌-◌, List, [], ◌∷◌, ℤ, pos, ◌*ℤ◌, neg_ℤ, slice_index_or}
+use Rattle.std.specs.Prelude.{◌≡◌, ℕ, ◌-◌, ◌&&◌, List, [], ◌∷◌, ℤ, pos, ◌*ℤ◌, neg_ℤ, Result, IfOk, nat_le, slice_index_or}
 use Rattle.std.specs.Int.{int_max}
+use Rattle.foundation.specs.Questions.{asks, verdict}
+use Rattle.records.specs.declared.fault.Fault.{Fault}
+use Rattle.records.specs.declared.fault.Fault.TheVariants as fault
 use Rattle.records.specs.declared.determinant.Determinant.{Determinant}
 use Rattle.records.specs.declared.determinant.Determinant.TheVariants.{Rtmg, Rtdcimp, Rtamlexsecm, Mebl, Rtqqes, Rtqqep, Daes, Daep, Rtobl, Rtobllo, Opt, Daobl, Opts, Obls, Optp, Oblp}
 use Rattle.records.specs.declared.determinant.Unit as unit
@@ -48,6 +51,11 @@ determinants = Rtmg ∷ Rtdcimp ∷ Rtamlexsecm ∷ Mebl ∷ Rtqqes ∷ Rtqqep �
 -- the determinant of a number from 1 to 16
 abbrev pub numbered : ℕ → Determinant
 numbered n = slice_index_or determinants (n - 1) Rtmg
+
+-- a number from 1 to 16 is read as its determinant, and any other refused
+pub record Decodes (n : ℕ) (r : Result Determinant Fault) : Type 0 where
+  pub value : r ≡ verdict (asks (nat_le 1 n && nat_le n 16) fault.Determinant ∷ []) (numbered n)
+  pub number : IfOk r (λ d. (facts d).number ≡ n)
 
 abbrev pub groups : List Group
 groups = Generation ∷ Load ∷ Sales ∷ Purchases ∷ DayAheadSales ∷ DayAheadPurchases ∷ RealTimeObligations ∷ CongestionRights ∷ CongestionRightPurchases ∷ []

@@ -1,3 +1,4 @@
 pub mod Faults
 pub mod Determinants
 pub mod Ruled
+pub mod Texts

@@ -4,25 +4,18 @@ ghost use Rattle.records.specs.Faults.{number as number_of};
 
 #[derive(Clone, Copy, PartialEq, Eq, Debug)]
 pub enum Fault {
-    Month,
-    Participant,
-    Determinant,
-    Mark,
-    Sign,
-    Sum,
+    Month = 12,
+    Participant = 13,
+    Determinant = 14,
+    Mark = 15,
+    Sign = 16,
+    Sum = 17,
 }
 
 impl Fault {
     pub fn number(self) -> u8
         ensures { result ≡ number_of self }
     {
-        match self {
-            Fault::Month => 12,
-            Fault::Participant => 13,
-            Fault::Determinant => 14,
-            Fault::Mark => 15,
-            Fault::Sign => 16,
-            Fault::Sum => 17,
-        }
+        self as u8
     }
 }

@@ -3,8 +3,10 @@
 
 mod determinant;
 mod fault;
+mod record;
 mod ruling;
 
 pub use determinant::{Determinant, Group, Unit};
 pub use fault::Fault;
-pub use ruling::{Mark, Ruling, ruled};
+pub use record::Record;
+pub use ruling::{Mark, Ruling};

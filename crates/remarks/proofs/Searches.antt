@@ -4,9 +4,10 @@ use borrow.Author.Tests.{lt-leb}
 use Rattle.std.proofs.lemmas.List.{get_or_past}
 use Rattle.std.proofs.lemmas.Bool.{cond-true, cond-false, cases_lt}
 use Rattle.std.specs.Int.Digits.{number_from_digits}
+use Rattle.std.specs.Option.{MatchOption}
 use Rattle.foundation.specs.Counting.{first}
-use Rattle.foundation.proofs.Firsts.{First, true-false, first-is, first_found, first-hit}
-use Rattle.remarks.specs.Remarks.{is_digit, is_mark, is_marked, digits, read_number, read_at, named, Names, NamedAnswer}
+use Rattle.foundation.proofs.Firsts.{First, true-false, first-is, first_found}
+use Rattle.remarks.specs.Remarks.{is_digit, is_mark, is_marked, digits, read_at, named, Names, NamedAnswer}
 use Rattle.remarks.proofs.Readings.{and_right}
 
 -- ---- a mark has four bytes
@@ -15,18 +16,16 @@ marked-long text h =
     let digit : is_digit (get_or text 3 0) ≡ true = and_right (eqb (get_or text 2 0) 86) _ (and_right (eqb (get_or text 1 0) 78) _ (and_right (eqb (get_or text 0 0) 73) _ h)) in
     elim (cases_lt 3 (length text)) [ inl k ↦ k | inr k ↦ absurd (true-false (is_digit (get_or text 3 0)) digit (ap is_digit (get_or_past text 3 0 k))) ]
 
-pub short-unmarked : (text : List ℕ) → length text ≤ 3 → false ≡ is_mark text
-short-unmarked text h = off (is_mark text) (λ e. let k = marked-long text e in omega arith)
-  where
-    off : (b : Bool) → (b ≡ true → ⊥) → false ≡ b
-    off true never = absurd (never refl)
-    off false never = refl
-
 pub whole-rest : (xs : List ℕ) (k : ℕ) → take (length xs - k) (drop k xs) ≡ drop k xs
 whole-rest xs k = take_all (length xs - k) (drop k xs) (simp length-drop (omega arith))
 
 pub marked-within : (xs : List ℕ) (k : ℕ) → is_marked xs k ≡ true → k + 3 < length xs
 marked-within xs k h = let l = marked-long (drop k xs) h in omega (arith, length-drop k xs)
+
+-- the first place, as a search over the places finds it
+pub first-place : (p : ℕ → Bool) (n : ℕ) (o : Option ℕ) → MatchOption o ((k : ℕ) → 0 ≤ k → k < n → p k ≡ false) (λ i. (0 ≤ i) × (i < n) × (p i ≡ true) × ((k : ℕ) → 0 ≤ k → k < i → p k ≡ false)) → First p n o
+first-place p n None h = λ e lt. h e (omega arith) lt
+first-place p n (Some i) h = (h.1, h.2, λ e lt. h.3 e (omega arith) lt)
 
 -- ---- the law
 if_some : (b : Bool) (v n : ℕ) → cond b (Some v) None ≡ Some n → (b ≡ true) × (n ≡ v)
@@ -61,18 +60,14 @@ module _ (most : ℕ) (remark : List ℕ) where
   pub law-of : (r : Option ℕ) → r ≡ named most remark → NamedAnswer most remark r
   law-of r e = subst (NamedAnswer most remark) (sym e) named-law
 
-  -- ---- the loop
+  -- ---- what the first marked place gives
   pub too_long : 64 < length remark → None ≡ named most remark
   unfolding named
   too_long h = sym (cond-false (leb (length remark) 64) _ _ (lt-leb (length remark) 64 h))
 
-  module _ (k : ℕ) (so : first (is_marked remark) k ≡ None) (short : length remark ≤ 64) where
-    from_first : (o : Option ℕ) → first (is_marked remark) (length remark) ≡ o → read_at most remark o ≡ named most remark
-    unfolding named
-    from_first o e = sym (cond-true (leb (length remark) 64) _ _ (le-leb (length remark) 64 short) ∙ ap (read_at most remark) e)
+  pub read_from : length remark ≤ 64 → (o : Option ℕ) → o ≡ first (is_marked remark) (length remark) → read_at most remark o ≡ named most remark
+  unfolding named
+  read_from short o e = sym (cond-true (leb (length remark) 64) _ _ (le-leb (length remark) 64 short) ∙ ap (read_at most remark) (sym e))
 
-    pub hit : k < length remark → is_marked remark k ≡ true → read_number most (drop 3 (drop k remark)) ≡ named most remark
-    hit lt on = from_first (Some k) (first-hit (is_marked remark) k (length remark) lt so on)
-
-    pub none : k ≡ length remark → None ≡ named most remark
-    none e = from_first None (ap (first (is_marked remark)) (sym e) ∙ so)
+pub place-within : (remark : List ℕ) (k : ℕ) → Some k ≡ first (is_marked remark) (length remark) → k + 3 < length remark
+place-within remark k e = marked-within remark k (subst (First (is_marked remark) (length remark)) (sym e) (first-is (is_marked remark) (length remark))).1

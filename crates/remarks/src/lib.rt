@@ -1,9 +1,10 @@
 // The invoice number that a payment's remark names.
 #![tactic(auto)]
 
-ghost use Rattle.std.specs.Prelude.{◌≡◌, ◌≤◌};
+ghost use Rattle.std.specs.Prelude.{◌≡◌, ◌≤◌, length};
+ghost use Rattle.foundation.specs.Counting.{first};
 ghost use Rattle.remarks.specs.Digits.{most_of};
-ghost use Rattle.remarks.specs.Remarks.{is_digit, is_mark, read_number, named, NamedAnswer};
+ghost use Rattle.remarks.specs.Remarks.{is_mark, is_marked, read_number, named, NamedAnswer};
 
 mod digits;
 
@@ -12,38 +13,39 @@ pub use digits::Digits;
 // A longer remark names none.
 const LONGEST: usize = 64;
 
-fn is_digit(byte: u8) -> bool
-    ensures { result ≡ is_digit byte }
-{
-    b'0' <= byte && byte <= b'9'
-}
-
 // The number that the text begins with, if it has at most so many digits.
-fn read_number(text: &[u8], most: usize) -> Option<u32>
-    requires { most ≤ 9 }
-    ensures { result ≡ read_number most text.now }
+fn read_number(text: &[u8], digits: Digits) -> Option<u32>
+    ensures { result ≡ read_number (most_of digits) text.now }
 {
+    let most = digits.most();
     let mut number: u32 = 0;
     for (i, byte) in text.iter().enumerate() {
-        if !is_digit(*byte) {
+        if !byte.is_ascii_digit() {
             return Some(number);
         }
         if i == most {
             return None;
         }
-        number = number * 10 + (*byte - b'0') as u32;
+        number = number * 10 + u32::from(*byte - b'0');
     }
     Some(number)
 }
 
-// Whether the text begins with INV and then a digit.
-fn stands_before_digit(text: &[u8]) -> bool
-    ensures { result ≡ is_mark text.now }
+// Whether INV stands at a place, directly before a digit.
+fn is_marked(remark: &[u8], place: usize) -> bool
+    ensures { result ≡ is_marked remark.now place }
 {
-    let [i, n, v, digit, ..] = text else {
-        return false;
-    };
-    *i == b'I' && *n == b'N' && *v == b'V' && is_digit(*digit)
+    match remark.get(place..) {
+        Some([b'I', b'N', b'V', digit, ..]) => digit.is_ascii_digit(),
+        _ => false,
+    }
+}
+
+// The first place where a number is marked.
+fn marked_place(remark: &[u8]) -> Option<usize>
+    ensures { result ≡ first (is_marked remark.now) (length remark.now) }
+{
+    (0..remark.len()).find(|place| is_marked(remark, *place))
 }
 
 // The number at the first place where INV stands directly before a digit.
@@ -54,10 +56,6 @@ pub fn invoice_number(remark: &[u8], digits: Digits) -> Option<u32>
     if remark.len() > LONGEST {
         return None;
     }
-    for place in 0..remark.len() {
-        if stands_before_digit(&remark[place..]) {
-            return read_number(&remark[place + 3..], digits.most());
-        }
-    }
-    None
+    let place = marked_place(remark)?;
+    read_number(&remark[place + 3..], digits)
 }

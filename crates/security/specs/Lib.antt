@@ -1,2 +1,3 @@
 pub mod Funding
 pub mod Instruments
+pub mod Rows

@@ -1,7 +1,5 @@
 // Cash, up to a limit.
-ghost use Rattle.std.specs.Prelude.{◌≡◌, ◌-◌, ◌<◌, ◌≤◌, min};
-ghost use Rattle.security.specs.declared.means.Means.{Means};
-ghost use Rattle.security.specs.Funding.{fund_answer, funded};
+ghost use Rattle.std.specs.Prelude.{◌≡◌, ◌≤◌};
 ghost use Rattle.security.specs.Instruments.{cash_room};
 
 use crate::instrument::Instrument;
@@ -31,9 +29,7 @@ impl Instrument for Cash {
         self.cents
     }
 
-    fn room(&self, means: Means) -> u64
-        ensures { result ≡ cash_room self.now.cents means }
-    {
+    fn room(&self, means: Means) -> u64 {
         match means {
             Means::Cash => MOST_SECURITY - self.cents,
             Means::Letter => 0,
@@ -46,20 +42,8 @@ impl Instrument for Cash {
         paid
     }
 
-    fn fund(&mut self, means: Means, n: u64) -> Result<(), FundingRefused>
-        ensures answer { result ≡ fund_answer means n (cash_room self.old.cents means) }
-        ensures left { self.new.cents ≡ funded self.old.cents n (cash_room self.old.cents means) }
-        ensures rooms { (m : Means) → cash_room self.new.cents m ≤ cash_room self.old.cents m }
-        ensures refused { cash_room self.old.cents means < n → self.new ≡ self.old }
-    {
-        let room = self.room(means);
-        if n > room {
-            return Err(FundingRefused {
-                means,
-                amount: n,
-                room,
-            });
-        }
+    fn fund(&mut self, means: Means, n: u64) -> Result<(), FundingRefused> {
+        FundingRefused::unless_fits(means, n, self.room(means))?;
         self.cents += n;
         Ok(())
     }

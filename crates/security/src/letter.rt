@@ -1,6 +1,5 @@
 // A letter of credit: a face, and what was drawn of it.
-ghost use Rattle.std.specs.Prelude.{◌≡◌, ℕ, ◌+◌, ◌-◌, ◌<◌, ◌≤◌, min};
-ghost use Rattle.security.specs.declared.means.Means.{Means};
+ghost use Rattle.std.specs.Prelude.{◌≡◌, ◌+◌, ◌-◌, ◌≤◌, min};
 ghost use Rattle.security.specs.Funding.{fund_answer, funded};
 ghost use Rattle.security.specs.Instruments.{letter_room};
 
@@ -35,9 +34,7 @@ impl Instrument for Letter {
         self.face - self.drawn
     }
 
-    fn room(&self, means: Means) -> u64
-        ensures { result ≡ letter_room self.now.face means }
-    {
+    fn room(&self, means: Means) -> u64 {
         match means {
             Means::Cash => 0,
             Means::Letter => MOST_SECURITY - self.face,
@@ -47,8 +44,6 @@ impl Instrument for Letter {
     // The face stays, and so does the room.
     fn draw(&mut self, n: u64) -> u64
         ensures paid { result ≡ min n (self.old.face - self.old.drawn) }
-        ensures left { self.new.face - self.new.drawn ≡ self.old.face - self.old.drawn - n }
-        ensures rooms { (m : Means) → letter_room self.old.face m ≤ letter_room self.new.face m }
         ensures face { self.new.face ≡ self.old.face }
         ensures drawn { self.new.drawn ≡ self.old.drawn + result }
     {
@@ -60,20 +55,10 @@ impl Instrument for Letter {
     // A funding raises the face.
     fn fund(&mut self, means: Means, n: u64) -> Result<(), FundingRefused>
         ensures answer { result ≡ fund_answer means n (letter_room self.old.face means) }
-        ensures left { self.new.face - self.new.drawn ≡ funded (self.old.face - self.old.drawn) n (letter_room self.old.face means) }
-        ensures rooms { (m : Means) → letter_room self.new.face m ≤ letter_room self.old.face m }
-        ensures refused { letter_room self.old.face means < n → self.new ≡ self.old }
         ensures face { self.new.face ≡ funded self.old.face n (letter_room self.old.face means) }
         ensures drawn { self.new.drawn ≡ self.old.drawn }
     {
-        let room = self.room(means);
-        if n > room {
-            return Err(FundingRefused {
-                means,
-                amount: n,
-                room,
-            });
-        }
+        FundingRefused::unless_fits(means, n, self.room(means))?;
         self.face += n;
         Ok(())
     }

@@ -10,5 +10,5 @@ mod pair;
 pub use cash::Cash;
 pub use instrument::Instrument;
 pub use letter::Letter;
-pub use means::{FundingRefused, Means};
+pub use means::{FundingRefused, Means, UnknownMeans};
 pub use pair::Pair;

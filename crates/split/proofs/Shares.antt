@@ -4,7 +4,7 @@ use native.Mathlib.Nat.{div-add-mod, le_of_mul-le-mul_left}
 use Rattle.std.proofs.lemmas.Bool.{ltb-false}
 use Rattle.foundation.specs.Counting.{total, count, one_if}
 use Rattle.split.specs.Split.{whole_part, remainder, leftover}
-use Rattle.foundation.proofs.Totals.{total_mono, total-le, total-same, total-sum, total-times, sum-total}
+use Rattle.foundation.proofs.Totals.{total_mono, total-more, total-le, total-same, total-sum, total-times, sum-total}
 
 module _ (amount : ℕ) (xs : List ℕ) where
   pub exact : (i : ℕ) → sum xs * whole_part amount xs i + remainder amount xs i ≡ amount * get_or xs i 0
@@ -29,6 +29,10 @@ module _ (amount : ℕ) (xs : List ℕ) (some : 0 < sum xs) where
 
   pub front-le : (i : ℕ) → i ≤ length xs → total (whole_part amount xs) i ≤ amount
   front-le i h = omega (arith, wholes-le, total_mono (whole_part amount xs) i (length xs) h)
+
+  -- the whole parts up to a place and its own are not above the amount
+  pub front-more : (i : ℕ) → i < length xs → total (whole_part amount xs) i + whole_part amount xs i ≤ amount
+  front-more i h = omega (arith, total-more (whole_part amount xs) i, front-le (i + 1) (omega arith))
 
   pub leftover-wholes : leftover amount xs + total (whole_part amount xs) (length xs) ≡ amount
   unfolding leftover

@@ -12,8 +12,8 @@ pub sum-end : (xs : List ℕ) (i : ℕ) → length xs ≤ i → sum (drop i xs) 
 sum-end xs i h = at_drop_all sum xs i h
 
 -- no activity is larger than all together
-pub activity-fits : (amount : ℕ) (xs : List ℕ) (i : ℕ) → Shareable amount xs → i < length xs → get_or xs i 0 ≤ 8000000000
-activity-fits amount xs i ok lt = omega (arith, ok.sum_fits, get_or-le-sum_by (λ x. x) xs i 0 lt)
+pub activity-fits : (xs : List ℕ) (all i : ℕ) → all ≡ sum xs → all ≤ 8000000000 → i < length xs → get_or xs i 0 ≤ 8000000000
+activity-fits xs all i e fits lt = omega (arith, get_or-le-sum_by (λ x. x) xs i 0 lt)
 
 -- what a share's product gives at a place is its whole part, and its remainder
 pub whole-at : (amount : ℕ) (xs : List ℕ) (all i w : ℕ) → all ≡ sum xs → w ≡ amount * get_or xs i 0 / all → w ≡ whole_part amount xs i

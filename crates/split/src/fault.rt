@@ -2,21 +2,18 @@
 ghost use Rattle.std.specs.Prelude.{◌≡◌};
 ghost use Rattle.split.specs.Faults.{number as number_of};
 
+// By its number.
 #[derive(Clone, Copy, PartialEq, Eq, Debug)]
 pub enum Fault {
-    Amount,
-    NoActivity,
-    TooMuchActivity,
+    Amount = 18,
+    NoActivity = 20,
+    TooMuchActivity = 21,
 }
 
 impl Fault {
     pub fn number(self) -> u8
         ensures { result ≡ number_of self }
     {
-        match self {
-            Fault::Amount => 18,
-            Fault::NoActivity => 20,
-            Fault::TooMuchActivity => 21,
-        }
+        self as u8
     }
 }

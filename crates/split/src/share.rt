@@ -8,6 +8,20 @@ ghost use Rattle.split.specs.Split.{Shareable, comes_first, leftover, ahead, cha
 use crate::amount::Amount;
 use crate::fault::Fault;
 use foundation::MOST_ACTIVITY;
+use std::cmp::Reverse;
+
+// An amount in cents, the activities that it is shared by, and their sum.
+#[derive(Clone, Copy)]
+struct Sharing<'a> {
+    amount: u64,
+    activities: &'a [u64],
+    all: u64,
+    ghost some: { 0 < amount },
+    ghost fits: { amount ≤ 1000000000 },
+    ghost active: { 0 < all },
+    ghost few: { all ≤ 8000000000 },
+    ghost summed: { all ≡ sum activities.now },
+}
 
 // The sum of all activities, if an amount can be shared by it.
 fn total_of(activities: &[u64]) -> Result<u64, Fault>
@@ -26,65 +40,67 @@ fn total_of(activities: &[u64]) -> Result<u64, Fault>
     Ok(all)
 }
 
-// The whole part and the remainder of an exact share.
-fn exact_share(amount: u64, activity: u64, all: u64) -> (u64, u64)
-    requires { (amount ≤ 1000000000) × ((activity ≤ 8000000000) × (0 < all)) }
-    ensures whole { result.0 ≡ amount * activity / all }
-    ensures rest { result.1 ≡ amount * activity % all }
-{
-    let product = amount * activity;
-    (product / all, product % all)
-}
-
-// The cents that the whole parts leave.
-fn leftover_of(amount: u64, activities: &[u64], all: u64) -> u64
-    requires { (Shareable amount activities.now) × (all ≡ sum activities.now) }
-    ensures { result ≡ leftover amount activities.now }
-{
-    let mut left = amount;
-    for a in activities {
-        let (whole, _) = exact_share(amount, *a, all);
-        left -= whole;
-    }
-    left
-}
-
-// Whether place j with the remainder theirs comes before place i with the remainder mine.
+// Whether place j with the remainder theirs comes before place i with the remainder mine: larger remainders first.
 fn comes_first(theirs: u64, j: usize, mine: u64, i: usize) -> bool
     ensures { result ≡ comes_first theirs j mine i }
 {
-    mine < theirs || (mine == theirs && j < i)
+    (Reverse(theirs), j) < (Reverse(mine), i)
 }
 
-// How many places come before place i.
-fn ahead_of(amount: u64, activities: &[u64], all: u64, i: usize) -> u64
-    requires { (Shareable amount activities.now) × ((all ≡ sum activities.now) × (i < length activities.now)) }
-    ensures { result ≡ ahead amount activities.now i }
-{
-    let (_, mine) = exact_share(amount, activities[i], all);
-    let mut before: u64 = 0;
-    for (j, a) in activities.iter().enumerate() {
-        let (_, theirs) = exact_share(amount, *a, all);
-        if comes_first(theirs, j, mine, i) {
-            before += 1;
+impl Sharing<'_> {
+    // The whole part and the remainder of an exact share.
+    fn exact_share(&self, activity: u64) -> (u64, u64)
+        requires { activity ≤ 8000000000 }
+        ensures whole { result.0 ≡ self.now.amount * activity / self.now.all }
+        ensures rest { result.1 ≡ self.now.amount * activity % self.now.all }
+    {
+        let product = self.amount * activity;
+        (product / self.all, product % self.all)
+    }
+
+    // The cents that the whole parts leave.
+    fn leftover(&self) -> u64
+        ensures { result ≡ leftover self.now.amount self.now.activities.now }
+    {
+        let mut left = self.amount;
+        for a in self.activities {
+            let (whole, _) = self.exact_share(*a);
+            left -= whole;
         }
+        left
     }
-    before
-}
 
-// The charge of place i, 0 past the last.
-fn charge_at(amount: u64, activities: &[u64], all: u64, left: u64, i: usize) -> u64
-    requires { (Shareable amount activities.now) × ((all ≡ sum activities.now) × (left ≡ leftover amount activities.now)) }
-    ensures { result ≡ slice_index (charges amount activities.now) i }
-{
-    if i >= activities.len() {
-        return 0;
+    // How many places come before place i.
+    fn ahead_of(&self, i: usize) -> u64
+        requires { i < length self.now.activities.now }
+        ensures { result ≡ ahead self.now.amount self.now.activities.now i }
+    {
+        let (_, mine) = self.exact_share(self.activities[i]);
+        let mut before: u64 = 0;
+        // Kept a loop: a rule of the project reads totals and remainders in loops over the slice, with its index.
+        for (j, a) in self.activities.iter().enumerate() {
+            let (_, theirs) = self.exact_share(*a);
+            if comes_first(theirs, j, mine, i) {
+                before += 1;
+            }
+        }
+        before
     }
-    let (whole, _) = exact_share(amount, activities[i], all);
-    if ahead_of(amount, activities, all, i) < left {
-        whole + 1
-    } else {
-        whole
+
+    // The charge of place i, 0 past the last, where so many cents are left over.
+    fn charge_at(&self, left: u64, i: usize) -> u64
+        requires { left ≡ leftover self.now.amount self.now.activities.now }
+        ensures { result ≡ slice_index (charges self.now.amount self.now.activities.now) i }
+    {
+        if i >= self.activities.len() {
+            return 0;
+        }
+        let (whole, _) = self.exact_share(self.activities[i]);
+        if self.ahead_of(i) < left {
+            whole + 1
+        } else {
+            whole
+        }
     }
 }
 
@@ -95,10 +111,15 @@ pub fn split(amount: Amount, activities: &[u64], out: &mut [u64]) -> Result<u64,
     ensures fair { OnOk result (FairSplit (cents_of amount) activities.now (charges (cents_of amount) activities.now)) }
 {
     let all = total_of(activities)?;
-    let cents = amount.cents();
-    let left = leftover_of(cents, activities, all);
-    for i in 0..out.len() {
-        out[i] = charge_at(cents, activities, all, left, i);
+    let amount = amount.cents();
+    let sharing = Sharing {
+        amount,
+        activities,
+        all,
+    };
+    let left = sharing.leftover();
+    for (i, charge) in out.iter_mut().enumerate() {
+        *charge = sharing.charge_at(left, i);
     }
     Ok(all)
 }

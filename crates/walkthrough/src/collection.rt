@@ -1,7 +1,7 @@
 // The invoices of a month, a part payment, and the past-due run at 17:00 and a minute later.
-use anyhow::anyhow;
+use anyhow::Context;
 use calendar::{Moment, Weekly, due_day};
-use receivables::{Charge, Invoice, Receivables, State};
+use receivables::{Charge, Invoice, Receivables};
 use remarks::{Digits, invoice_number};
 use security::{Cash, Instrument, Letter, Means, Pair};
 use std::io;
@@ -19,20 +19,12 @@ type Book = Receivables<256>;
 
 type Security = Pair<Cash, Letter>;
 
-fn state_name(state: State) -> &'static str {
-    match state {
-        State::Open => "open",
-        State::Short => "short",
-        State::Settled => "settled",
-    }
-}
-
 fn print_invoice(rt: &impl Print, invoice: &Invoice) -> io::Result<()> {
     let number = invoice.number;
     let billed = invoice.billed;
     let balance = invoice.balance;
     let due_day = invoice.due_day;
-    let state = state_name(invoice.state);
+    let state = invoice.state;
     println!(rt;
         "  invoice {number} to Counter-Party {billed}: {balance} cents, due on day {due_day}, {state}"
     )
@@ -47,11 +39,7 @@ fn print_invoices(rt: &impl Print, book: &Book) -> io::Result<()> {
 
 // Cents that a charge can have; no charge is larger.
 fn cents(charge: u64) -> u32 {
-    if charge > u64::from(u32::MAX) {
-        u32::MAX
-    } else {
-        charge as u32
-    }
+    u32::try_from(charge).unwrap_or(u32::MAX)
 }
 
 fn issue(rt: &impl Print, book: &mut Book, charges: [u64; 2], due_day: u16) -> io::Result<()> {
@@ -103,13 +91,11 @@ fn fund(
     means: Means,
     amount: u64,
 ) -> io::Result<()> {
-    if place >= 2 {
+    let Some(security) = row.get_mut(place) else {
         return Ok(());
-    }
-    let mut security = row[place];
+    };
     match security.fund(means, amount) {
         Ok(_) => {
-            row[place] = security;
             let held = security.held();
             println!(rt; "  place {place} is funded with {amount} and holds {held}")
         }
@@ -142,9 +128,7 @@ fn run(
 // Carries the charges from their invoices to the draws for what is past due.
 pub(crate) fn carry_out(rt: &HostRuntime, charges: [u64; 2]) -> anyhow::Result<()> {
     let weekly = Weekly::new(&[BANK_HOLIDAY], &[]);
-    let Some(day) = due_day(&weekly, INVOICE_DAY) else {
-        return Err(anyhow!("no due day"));
-    };
+    let day = due_day(&weekly, INVOICE_DAY).context("no due day")?;
     let mut book: Book = Receivables::new(rt.alloc(), ACCOUNT)?;
     issue(rt, &mut book, charges, day)?;
     pay(rt, &mut book, 400_000)?;

@@ -1,6 +1,6 @@
 // A month's records, its activities and its charges.
 use activity::{Closed, Collecting, Position, Table};
-use records::{Determinant, Fault, Group, Mark, Ruling, Unit};
+use records::{Fault, Group, Record, Ruling};
 use split::{Amount, split};
 use std::io;
 
@@ -16,138 +16,45 @@ const REFERENCE_MONTH: u16 = 76;
 // 12,345.67 dollars: an odd cent for two equal shares.
 const CENTS: u64 = 1_234_567;
 
-#[derive(Clone, Copy)]
-struct Record {
+// Participant, determinant, mark and quantity. Both retailers come to 4,000 MWh: the first by its load, the second
+// by its purchases.
+const READINGS: [(usize, u8, u8, i32); 12] = [
+    (0, 3, 0, 1_300_000),
+    (0, 3, 0, 1_300_000),
+    (1, 3, 0, 1_500_000),
+    (1, 4, 0, 100_000),
+    (0, 1, 1, 9_000_000),
+    (1, 7, 0, 800_000),
+    (2, 6, 0, 7_999_999),
+    (2, 6, 0, 1),
+    (2, 6, 0, 8_000_000),
+    (2, 2, 0, 3_000_000),
+    (2, 1, 0, 2_000_000),
+    (2, 2, 1, 5_000),
+];
+
+fn print_posted(
+    rt: &impl Print,
     participant: usize,
-    determinant: u8,
-    mark: u8,
-    quantity: i32,
-}
-
-// Both retailers come to 4,000 MWh: the first by its load, the second by its purchases.
-const RECORDS: [Record; 12] = [
-    Record {
-        participant: 0,
-        determinant: 3,
-        mark: 0,
-        quantity: 1_300_000,
-    },
-    Record {
-        participant: 0,
-        determinant: 3,
-        mark: 0,
-        quantity: 1_300_000,
-    },
-    Record {
-        participant: 1,
-        determinant: 3,
-        mark: 0,
-        quantity: 1_500_000,
-    },
-    Record {
-        participant: 1,
-        determinant: 4,
-        mark: 0,
-        quantity: 100_000,
-    },
-    Record {
-        participant: 0,
-        determinant: 1,
-        mark: 1,
-        quantity: 9_000_000,
-    },
-    Record {
-        participant: 1,
-        determinant: 7,
-        mark: 0,
-        quantity: 800_000,
-    },
-    Record {
-        participant: 2,
-        determinant: 6,
-        mark: 0,
-        quantity: 7_999_999,
-    },
-    Record {
-        participant: 2,
-        determinant: 6,
-        mark: 0,
-        quantity: 1,
-    },
-    Record {
-        participant: 2,
-        determinant: 6,
-        mark: 0,
-        quantity: 8_000_000,
-    },
-    Record {
-        participant: 2,
-        determinant: 2,
-        mark: 0,
-        quantity: 3_000_000,
-    },
-    Record {
-        participant: 2,
-        determinant: 1,
-        mark: 0,
-        quantity: 2_000_000,
-    },
-    Record {
-        participant: 2,
-        determinant: 2,
-        mark: 1,
-        quantity: 5_000,
-    },
-];
-
-const GROUPS: [Group; 9] = [
-    Group::Generation,
-    Group::Load,
-    Group::Sales,
-    Group::Purchases,
-    Group::DayAheadSales,
-    Group::DayAheadPurchases,
-    Group::RealTimeObligations,
-    Group::CongestionRights,
-    Group::CongestionRightPurchases,
-];
-
-fn unit_name(determinant: Determinant) -> &'static str {
-    match determinant.unit() {
-        Unit::MegawattHour => "MWh",
-        Unit::MegawattOverHour => "MW over an hour",
-        Unit::MegawattOverQuarterHour => "MW over 15 minutes",
-    }
-}
-
-fn mark_name(mark: Mark) -> &'static str {
-    match mark {
-        Mark::RmrResource => "an RMR Resource",
-        Mark::RucInterval => "a RUC-Committed Interval",
-    }
-}
-
-fn print_posted(rt: &impl Print, record: Record, answer: Result<Ruling, Fault>) -> io::Result<()> {
+    record: Record,
+    answer: Result<Ruling, Fault>,
+) -> io::Result<()> {
     let Record {
-        participant,
         determinant,
         mark: _,
         quantity,
     } = record;
     match answer {
         Ok(Ruling::Counted(counted)) => {
-            let unit = unit_name(counted);
+            let unit = counted.unit();
             let group = counted.group().number();
             println!(rt;
                 "  participant {participant}, determinant {determinant}: {quantity} thousandths of a {unit}, group {group}"
             )
         }
-        Ok(Ruling::Excluded(mark)) => {
-            let why = mark_name(mark);
-            println!(rt;
-                "  participant {participant}, determinant {determinant}: {quantity} accepted and not added, {why}"
-            )
-        }
+        Ok(Ruling::Excluded(mark)) => println!(rt;
+            "  participant {participant}, determinant {determinant}: {quantity} accepted and not added, {mark}"
+        ),
         Err(fault) => {
             let number = fault.number();
             println!(rt;
@@ -158,22 +65,20 @@ fn print_posted(rt: &impl Print, record: Record, answer: Result<Ruling, Fault>) 
 }
 
 fn post_records(rt: &impl Print, table: &mut Table, month: &Collecting) -> io::Result<()> {
-    for record in RECORDS {
-        let position = Position::new(record.participant);
-        let answer = table.post(
-            month,
-            position,
-            record.determinant,
-            record.mark,
-            record.quantity,
-        );
-        print_posted(rt, record, answer)?;
+    for (participant, determinant, mark, quantity) in READINGS {
+        let record = Record {
+            determinant,
+            mark,
+            quantity,
+        };
+        let answer = table.post(month, Position::new(participant), record);
+        print_posted(rt, participant, record, answer)?;
     }
     Ok(())
 }
 
 fn print_activity(rt: &impl Print, table: &Table, party: usize) -> io::Result<()> {
-    for group in GROUPS {
+    for group in Group::ALL {
         let number = group.number();
         let quarters = table.group_value(&PARTIES, party, group).count();
         println!(rt; "    group {number}: {quarters}")?;
@@ -191,10 +96,7 @@ fn split_charges(rt: &impl Print, table: &Table, month: &Closed) -> io::Result<[
         println!(rt; "  no activities: refused with {number}")?;
         return Ok(charges);
     }
-    let answer = match Amount::new(CENTS) {
-        Ok(amount) => split(amount, &activities, &mut charges),
-        Err(fault) => Err(fault),
-    };
+    let answer = Amount::new(CENTS).and_then(|amount| split(amount, &activities, &mut charges));
     match answer {
         Ok(all) => println!(rt; "  {CENTS} cents by {all} quarters of a kWh")?,
         Err(fault) => {
@@ -202,8 +104,7 @@ fn split_charges(rt: &impl Print, table: &Table, month: &Closed) -> io::Result<[
             println!(rt; "  no charges: refused with {number}")?;
         }
     }
-    for (i, name) in NAMES.iter().enumerate() {
-        let cents = charges[i];
+    for (name, cents) in NAMES.iter().zip(charges.iter()) {
         println!(rt; "  {name} is charged {cents}")?;
     }
     Ok(charges)

@@ -1,18 +1,15 @@
 // What a record adds to a row, and what the row counts.
-ghost use Rattle.std.specs.Prelude.{◌≡◌, ◌<◌, true, false, ◌≢◌};
-ghost use Rattle.std.specs.Int.Signed.{non_neg};
+ghost use Rattle.std.specs.Prelude.{◌≡◌, true, ◌≢◌};
 ghost use Rattle.foundation.specs.Questions.{after};
 ghost use Rattle.records.specs.declared.determinant.Determinant.TheVariants.{Mebl};
 ghost use Rattle.records.specs.declared.determinant.Group.TheVariants.{Load, CongestionRights};
-ghost use Rattle.activity.specs.declared.row.place.Place.TheVariants.{Energy, Interval};
 ghost use Rattle.activity.specs.Activity.{counted, row_value};
 ghost use Rattle.activity.specs.Counts.{Counts};
 ghost use Rattle.records.specs.Determinants.{facts};
 ghost use Rattle.records.specs.Ruled.{sign_allowed};
-ghost use Rattle.activity.specs.Rows.{kept_in, kept_at, sums_of};
-ghost use Rattle.activity.specs.Signs.{energy_signed};
+ghost use Rattle.activity.specs.Rows.{sums_of};
 ghost use Rattle.activity.specs.Sums.{no_sums, add_answer, added};
-ghost use Rattle.activity.specs.Units.{kwh, kw_quarter_hours, quarters_in};
+ghost use Rattle.activity.specs.Units.{quarters_in};
 
 use super::Row;
 use super::place::{Place, place_of};
@@ -42,32 +39,16 @@ impl Row {
         Ok(())
     }
 
-    fn energy_at(&self, k: usize) -> KilowattHours
-        requires { k < 13 }
-        ensures value { kwh result ≡ kept_at (kept_in self.now) (Energy k) }
-        ensures natural { energy_signed k ≡ false → non_neg (kwh result) ≡ true }
-    {
-        self.energy[k]
-    }
-
-    fn interval_at(&self, k: usize) -> KilowattQuarterHours
-        requires { k < 3 }
-        ensures value { kw_quarter_hours result ≡ kept_at (kept_in self.now) (Interval k) }
-        ensures natural { non_neg (kw_quarter_hours result) ≡ true }
-    {
-        self.intervals[k]
-    }
-
     // What the sum of a determinant counts: that of determinant 3 as the larger of 0 and itself, that of determinant 4 with its sign reversed.
     pub(crate) fn counted(&self, determinant: Determinant) -> Quarters
         ensures { Counts (counted (sums_of self.now) determinant) 8000000000 (determinant ≢ Mebl) (quarters_in result) }
     {
         match place_of(determinant) {
-            Place::Interval(k) => self.interval_at(k).quarters(),
+            Place::Interval(k) => self.intervals[k].quarters(),
             Place::Energy(k) => match determinant {
-                Determinant::Rtamlexsecm => self.energy_at(k).clipped().quarters(),
-                Determinant::Mebl => self.energy_at(k).reversed().quarters(),
-                _ => self.energy_at(k).quarters(),
+                Determinant::Rtamlexsecm => self.energy[k].clipped().quarters(),
+                Determinant::Mebl => (-self.energy[k]).quarters(),
+                _ => self.energy[k].quarters(),
             },
         }
     }

@@ -1,8 +1,8 @@
 // What the Counter-Parties count. `parties` has the position of each participant's Counter-Party, in order of enrolment.
-ghost use Rattle.std.specs.Prelude.{◌≡◌, ◌≤◌, length, pos, ◌≢◌};
+ghost use Rattle.std.specs.Prelude.{◌≡◌, length, pos, ◌≢◌};
 ghost use Rattle.foundation.specs.Questions.{after};
 ghost use Rattle.records.specs.declared.determinant.Group.TheVariants.{Load};
-ghost use Rattle.activity.specs.Activity.{group_numbered, is_under, group_value, group_values, largest, activity as quarters_of, activities as quarters_of_all};
+ghost use Rattle.activity.specs.Activity.{is_under, group_value, group_values, largest, activity as quarters_of, activities as quarters_of_all};
 ghost use Rattle.activity.specs.Counts.{Counts};
 ghost use Rattle.activity.specs.Months.{closed_month};
 ghost use Rattle.activity.specs.Tables.{meaning, activities_answer};
@@ -16,26 +16,7 @@ use records::{Fault, Group};
 fn is_under(parties: &[usize], party: usize, k: usize) -> bool
     ensures { result ≡ is_under parties.now party k }
 {
-    k < parties.len() && parties[k] == party
-}
-
-// The group of a number from 1 to 9.
-fn group_numbered(number: u8) -> Group
-    requires { (1 ≤ number) × (number ≤ 9) }
-    ensures { result ≡ group_numbered number }
-{
-    match number {
-        1 => Group::Generation,
-        2 => Group::Load,
-        3 => Group::Sales,
-        4 => Group::Purchases,
-        5 => Group::DayAheadSales,
-        6 => Group::DayAheadPurchases,
-        7 => Group::RealTimeObligations,
-        8 => Group::CongestionRights,
-        9 => Group::CongestionRightPurchases,
-        _ => unreachable(),
-    }
+    parties.get(k) == Some(&party)
 }
 
 impl Table {
@@ -52,16 +33,16 @@ impl Table {
         sum
     }
 
-    // The largest of a Counter-Party's nine group values.
+    // The largest of a Counter-Party's nine group values, which is not below 0, since only group 2 can be.
     pub fn activity(&self, parties: &[usize], party: usize) -> u64
         ensures value { result ≡ quarters_of (meaning self.now).rows parties.now party }
         ensures largest { pos result ≡ largest (group_values (meaning self.now).rows parties.now party) }
     {
-        let mut top = self.group_value(parties, party, Group::Generation);
-        for number in 2..=9 {
-            top = top.larger(self.group_value(parties, party, group_numbered(number)));
+        let mut top = Quarters::zero();
+        for group in Group::ALL {
+            top = top.max(self.group_value(parties, party, group));
         }
-        top.count() as u64
+        top.count().unsigned_abs()
     }
 
     // Writes the activity of the Counter-Party at each place, if the table carries the month.
@@ -77,8 +58,8 @@ impl Table {
         if !self.carries(month.month) {
             return Err(Fault::Month);
         }
-        for i in 0..out.len() {
-            out[i] = self.activity(parties, i);
+        for (i, activity) in out.iter_mut().enumerate() {
+            *activity = self.activity(parties, i);
         }
         Ok(())
     }

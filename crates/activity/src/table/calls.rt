@@ -10,7 +10,7 @@ use super::Table;
 use crate::month::Collecting;
 use crate::position::Position;
 use crate::row::Row;
-use records::{Fault, Ruling, ruled};
+use records::{Fault, Record, Ruling};
 
 impl Table {
     // A new table carries no month.
@@ -36,10 +36,7 @@ impl Table {
     pub(crate) fn carries(&self, month: u16) -> bool
         ensures { result ≡ carries (meaning self.now) month }
     {
-        match self.month {
-            Some(carried) => carried == month,
-            None => false,
-        }
+        self.month == Some(month)
     }
 
     // Adds a record of the participant at a position, if there is one; a record with mark 1 or 2 is accepted and not added.
@@ -47,24 +44,20 @@ impl Table {
         &mut self,
         state: &Collecting,
         participant: Option<Position>,
-        determinant: u8,
-        mark: u8,
-        quantity: i32,
+        record: Record,
     ) -> Result<Ruling, Fault>
-        ensures answer { result ≡ post_answer (meaning self.old) (collecting_month state.now) (option_map index_of participant) determinant mark quantity }
-        ensures table { meaning self.new ≡ after result (posted (meaning self.old) (option_map index_of participant) determinant mark quantity) (meaning self.old) }
+        ensures answer { result ≡ post_answer (meaning self.old) (collecting_month state.now) (option_map index_of participant) «record».determinant «record».mark «record».quantity }
+        ensures table { meaning self.new ≡ after result (posted (meaning self.old) (option_map index_of participant) «record».determinant «record».mark «record».quantity) (meaning self.old) }
     {
         if !self.carries(state.month) {
             return Err(Fault::Month);
         }
-        let Some(position) = participant else {
-            return Err(Fault::Participant);
-        };
-        let ruling = ruled(determinant, mark, quantity)?;
+        let k = participant.ok_or(Fault::Participant)?.index();
+        let ruling = record.ruled()?;
         if let Ruling::Counted(determinant) = ruling {
-            let k = position.index();
+            // Added to a copy: the borrow checker doesn't build a call that writes to an element beside the table's ghost field.
             let mut row = self.rows[k];
-            row.add(determinant, quantity)?;
+            row.add(determinant, record.quantity)?;
             self.rows[k] = row;
         }
         Ok(ruling)

@@ -33,7 +33,6 @@ impl Moment {
     pub fn is_before(self, other: Moment) -> bool
         ensures { result ≡ before (when self) (when other) }
     {
-        let same_day = self.day == other.day;
-        same_day && self.minute < other.minute || self.day < other.day
+        self < other
     }
 }

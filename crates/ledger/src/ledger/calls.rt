@@ -13,12 +13,13 @@ ghost use Rattle.ledger.specs.Pay.{moment_answer, pay_answer, paid};
 ghost use Rattle.ledger.specs.Raised.{raised};
 
 use super::Ledger;
+use crate::charges::Charges;
 use crate::fault::Fault;
 use crate::registry::Registry;
 use activity::{Collecting, Table};
-use calendar::Moment;
+use calendar::{Moment, Stamp};
 use receivables::Receivables;
-use records::Ruling;
+use records::{Record, Ruling};
 use remarks::{Digits, invoice_number};
 use std::alloc::{AllocError, Global};
 
@@ -32,7 +33,7 @@ impl Ledger {
         Ok(Ledger {
             registry,
             receivables,
-            charges: [0; 32],
+            charges: Charges::none(),
             moment: None,
             month: None,
         })
@@ -60,52 +61,38 @@ impl Ledger {
         table: &mut Table,
         month: &Collecting,
         participant: u16,
-        determinant: u8,
-        mark: u8,
-        quantity: i32,
+        record: Record,
     ) -> Result<Ruling, Fault>
-        ensures answer { result ≡ raised RecordFault (post_answer (meaning table.old) (collecting_month month.now) (place_of (model_of self.now).register.participants participant) determinant mark quantity) }
-        ensures table { meaning table.new ≡ after result (posted (meaning table.old) (place_of (model_of self.now).register.participants participant) determinant mark quantity) (meaning table.old) }
+        ensures answer { result ≡ raised RecordFault (post_answer (meaning table.old) (collecting_month month.now) (place_of (model_of self.now).register.participants participant) «record».determinant «record».mark «record».quantity) }
+        ensures table { meaning table.new ≡ after result (posted (meaning table.old) (place_of (model_of self.now).register.participants participant) «record».determinant «record».mark «record».quantity) (meaning table.old) }
     {
-        let ruling = table.post(
-            month,
-            self.registry.participant(participant),
-            determinant,
-            mark,
-            quantity,
-        )?;
-        Ok(ruling)
+        Ok(table.post(month, self.registry.participant(participant), record)?)
     }
 
     // A call's moment, if it is one and not before the last accepted one.
-    pub(crate) fn moment(&self, day: u16, minute: u16) -> Result<Moment, Fault>
-        ensures { means when result ≡ moment_answer (model_of self.now) day minute }
+    pub(crate) fn moment(&self, stamp: Stamp) -> Result<Moment, Fault>
+        ensures { means when result ≡ moment_answer (model_of self.now) stamp.day stamp.minute }
     {
-        let Some(at) = Moment::new(day, minute) else {
-            return Err(Fault::NoMoment);
-        };
-        match self.moment {
-            Some(last) if at.is_before(last) => Err(Fault::Before),
-            _ => Ok(at),
+        let at = Moment::new(stamp.day, stamp.minute).ok_or(Fault::NoMoment)?;
+        if self.moment.is_some_and(|last| at.is_before(last)) {
+            return Err(Fault::Before);
         }
+        Ok(at)
     }
 
     // Pays on the invoice that the remark names, and answers the balance left.
     pub fn pay(
         &mut self,
-        day: u16,
-        minute: u16,
+        stamp: Stamp,
         account: u16,
         amount: u64,
         remark: &[u8],
     ) -> Result<u64, Fault>
-        ensures answer { result ≡ pay_answer (model_of self.old) day minute account amount remark.now }
-        ensures model { model_of self.new ≡ after result (paid (model_of self.old) day minute amount remark.now) (model_of self.old) }
+        ensures answer { result ≡ pay_answer (model_of self.old) stamp.day stamp.minute account amount remark.now }
+        ensures model { model_of self.new ≡ after result (paid (model_of self.old) stamp.day stamp.minute amount remark.now) (model_of self.old) }
     {
-        let at = self.moment(day, minute)?;
-        let Some(number) = invoice_number(remark, Digits::five()) else {
-            return Err(Fault::Remark);
-        };
+        let at = self.moment(stamp)?;
+        let number = invoice_number(remark, Digits::five()).ok_or(Fault::Remark)?;
         let left = self.receivables.pay(number, account, amount)?;
         self.moment = Some(at);
         Ok(left)

@@ -16,12 +16,7 @@ use std::alloc::{AllocError, Global};
 fn place_of(table: &[u16], number: u16) -> Option<usize>
     ensures { result ≡ place_of table.now number }
 {
-    for (k, known) in table.iter().enumerate() {
-        if *known == number {
-            return Some(k);
-        }
-    }
-    None
+    table.iter().position(|known| *known == number)
 }
 
 impl Registry {
@@ -64,10 +59,8 @@ impl Registry {
     pub(crate) fn participant(&self, number: u16) -> Option<Position>
         ensures { option_map index_of result ≡ place_of (register_of self.now).participants number }
     {
-        match place_of(self.participants.as_slice(), number) {
-            Some(k) => Position::new(k),
-            None => None,
-        }
+        let place = place_of(self.participants.as_slice(), number)?;
+        Position::new(place)
     }
 
     pub(crate) fn register(&mut self, counter_party: u16) -> Result<(), Fault>
@@ -97,9 +90,7 @@ impl Registry {
         if self.participant(participant).is_some() {
             return Err(Fault::Known);
         }
-        let Some(position) = self.position_of(counter_party) else {
-            return Err(Fault::CounterParty);
-        };
+        let position = self.position_of(counter_party).ok_or(Fault::CounterParty)?;
         if self.participants.len() >= MOST_PARTICIPANTS {
             return Err(Fault::Full);
         }

@@ -2,23 +2,19 @@
 ghost use Rattle.std.specs.Prelude.{◌≡◌};
 ghost use Rattle.ledger.specs.RegistryFaults.{number as number_of};
 
+// By its number.
 #[derive(Clone, Copy)]
 pub enum Fault {
-    Zero,
-    Known,
-    Full,
-    CounterParty,
+    Zero = 8,
+    Known = 9,
+    Full = 10,
+    CounterParty = 11,
 }
 
 impl Fault {
     pub fn number(self) -> u8
         ensures { result ≡ number_of self }
     {
-        match self {
-            Fault::Zero => 8,
-            Fault::Known => 9,
-            Fault::Full => 10,
-            Fault::CounterParty => 11,
-        }
+        self as u8
     }
 }

@@ -1,10 +1,8 @@
 // Making receivables, looking into them, and paying.
-ghost use Rattle.std.specs.Prelude.{◌≡◌, ◌≤◌, length, IfOk, vec_capacity, filter, nat_eq, slice_index_or};
-ghost use Rattle.std.specs.List.{AllByRecursion};
-ghost use Rattle.foundation.specs.Counting.{first};
+ghost use Rattle.std.specs.Prelude.{◌≡◌, ◌<◌, ◌^◌, ◌==◌, IfOk, vec_capacity, filter, position};
 ghost use Rattle.foundation.specs.Questions.{after};
 ghost use Rattle.receivables.specs.Books.{book_of, new_book};
-ghost use Rattle.receivables.specs.Invoices.{nothing, owed_by, unsettled};
+ghost use Rattle.receivables.specs.Invoices.{balances, owed_by, unsettled};
 ghost use Rattle.receivables.specs.Payments.{pay_answer, after_pay};
 
 use super::Receivables;
@@ -17,42 +15,25 @@ pub(crate) fn sweep(list: &mut Vec<Invoice>)
     ensures items { list.new.items ≡ filter unsettled list.old.items }
     ensures capacity { vec_capacity list.new ≡ vec_capacity list.old }
 {
-    let mut kept = 0;
-    for i in 0..list.len() {
-        let invoice = list[i];
-        if !invoice.is_settled() {
-            list[kept] = invoice;
-            kept += 1;
-        }
-    }
-    list.truncate(kept);
+    list.retain(|invoice| !invoice.is_settled());
 }
 
 // Where the invoice with a number stands.
 fn place_of(list: &[Invoice], number: u32) -> Option<usize>
-    ensures { result ≡ first (λ k. nat_eq (slice_index_or list.now k nothing).number number) (length list.now) }
+    ensures { result ≡ position (λ v. v.number == number) list.now }
 {
-    for (k, invoice) in list.iter().enumerate() {
-        if invoice.number == number {
-            return Some(k);
-        }
-    }
-    None
+    list.iter().position(|invoice| invoice.number == number)
 }
 
 // What a Counter-Party owes on the invoices of a list.
 fn owed_in(list: &[Invoice], counter_party: u16) -> u64
-    requires few { length list.now ≤ 4294967295 }
-    requires small { AllByRecursion (λ v. v.balance ≤ 4294967295) list.now }
+    requires { balances list.now < 2 ^ 64 }
     ensures { result ≡ owed_by list.now counter_party }
 {
-    let mut owed = 0;
-    for invoice in list {
-        if invoice.billed == counter_party {
-            owed += invoice.balance;
-        }
-    }
-    owed
+    list.iter()
+        .filter(|invoice| invoice.billed == counter_party)
+        .map(|invoice| invoice.balance)
+        .sum()
 }
 
 impl<const PLACES: usize> Receivables<PLACES> {
@@ -87,9 +68,7 @@ impl<const PLACES: usize> Receivables<PLACES> {
         ensures answer { result ≡ pay_answer (book_of self.old) number account amount }
         ensures book { book_of self.new ≡ after result (after_pay (book_of self.old) number amount) (book_of self.old) }
     {
-        let Some(k) = place_of(self.list.as_slice(), number) else {
-            return Err(Fault::Number);
-        };
+        let k = place_of(self.list.as_slice(), number).ok_or(Fault::Number)?;
         if account != self.account {
             return Err(Fault::Account);
         }

@@ -14,13 +14,7 @@ fn positive_in(charges: &[Charge]) -> usize
     ensures value { result ≡ positive charges.now }
     ensures few { result ≤ length charges.now }
 {
-    let mut count = 0;
-    for charge in charges {
-        if charge.cents > 0 {
-            count += 1;
-        }
-    }
-    count
+    charges.iter().filter(|charge| charge.cents > 0).count()
 }
 
 impl<const PLACES: usize> Receivables<PLACES> {
@@ -28,14 +22,14 @@ impl<const PLACES: usize> Receivables<PLACES> {
     fn add(&mut self, charge: Charge, due_day: u16)
         requires some { 0 < charge.cents }
         requires place { length (book_of self.old).invoices < PLACES }
-        requires number { (book_of self.old).next < 4294967295 }
+        requires number { (book_of self.old).next < u32.MAX }
         ensures { book_of self.new ≡ after_issue (book_of self.old) due_day (charge ∷ []) }
     {
         let invoice = Invoice {
             number: self.next,
             billed: charge.billed,
             position: charge.position,
-            balance: charge.cents as u64,
+            balance: u64::from(charge.cents),
             due_day,
             state: State::Open,
         };
@@ -50,9 +44,11 @@ impl<const PLACES: usize> Receivables<PLACES> {
     {
         let count = positive_in(charges);
         let first = self.next;
+        // `as`: no `From` leads from this width to that of a length.
         if count > PLACES - self.list.len() || count > (u32::MAX - first) as usize {
             return Err(Fault::Places);
         }
+        // Kept as a test in the loop: a loop over a filter gets no proof in a block with a const parameter.
         for charge in charges {
             if charge.cents > 0 {
                 self.add(*charge, due_day);

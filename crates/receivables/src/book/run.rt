@@ -1,7 +1,7 @@
 // The past-due run.
-ghost use Rattle.std.specs.Prelude.{◌≡◌, ℕ, ◌≤◌, map, slice_index_or};
+ghost use Rattle.std.specs.Prelude.{◌≡◌, ℕ, map, slice_index_or};
 ghost use Rattle.calendar.specs.Moments.{when};
-ghost use Rattle.security.specs.declared.means.Means.{Means};
+ghost use Rattle.security.specs.Rows.{NoRoomFalls};
 ghost use Rattle.receivables.specs.Books.{book_of};
 ghost use Rattle.receivables.specs.Invoices.{is_past_due};
 ghost use Rattle.receivables.specs.Laws.{Untouched, RunLaw};
@@ -20,7 +20,7 @@ impl<const PLACES: usize> Receivables<PLACES> {
         ensures book { book_of self.new ≡ after_run (is_past_due (when at)) (book_of self.old) (map I.held row.old) }
         ensures helds { map I.held row.new ≡ helds (is_past_due (when at)) (book_of self.old).invoices (map I.held row.old) }
         ensures others { (j : ℕ) (d : I) → Untouched (is_past_due (when at)) j (book_of self.old).invoices → slice_index_or row.new j d ≡ slice_index_or row.old j d }
-        ensures rooms { (j : ℕ) (d : I) (m : Means) → I.room (slice_index_or row.old j d) m ≤ I.room (slice_index_or row.new j d) m }
+        ensures rooms { NoRoomFalls I.room row.old row.new }
         ensures law { RunLaw (is_past_due (when at)) (book_of self.old).invoices (map I.held row.old) (book_of self.new).invoices (map I.held row.new) result }
     {
         let outcome = draw_all(self.list.as_mut_slice(), at, row);

@@ -2,4 +2,4 @@ use Rattle.remarks.proofs.Readings.{Reading}
 use Rattle.remarks.proofs.read_number.Given as goal
 
 abbrev pub invariant-loop-i : goal.invariant-loop-i
-invariant-loop-i l = Reading l.most l.text l.i l.number
+invariant-loop-i l = Reading l.fn.digits.most l.text l.i l.number

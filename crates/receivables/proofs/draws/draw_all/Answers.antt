@@ -1,7 +1,7 @@
-use Rattle.std.proofs.Common.{◌≡◌, ◌+◌, ◌<◌, ◌≤◌, true, map, length, get_or, set, sym, refl, ◌∙◌, arith}
+use Rattle.std.proofs.Common.{◌≡◌, ◌+◌, ◌<◌, true, map, length, get_or, set, sym, ◌∙◌, arith}
 use Rattle.calendar.specs.Moments.{when}
 use Rattle.receivables.specs.Invoices.{is_past_due, nothing}
-use Rattle.receivables.proofs.Runs.{Going, going-none, going-all, late-turn, early-turn, next-all, drawn-fits, owed-fits}
+use Rattle.receivables.proofs.Runs.{Going, late-turn, early-turn, next-all, drawn-within, owed-within}
 use Rattle.receivables.proofs.draws.draw_all.Given as given
 use Rattle.receivables.proofs.draws.draw_all.Goals as goal
 use Rattle.receivables.proofs.draws.draw_all.Goals.{then-is_past_due, else-is_past_due}
@@ -17,13 +17,10 @@ turn g c =
     late-turn c.loop-invoice.invariant.0 l (sym c.if-is_past_due.ensures) _ _ _ e.invoice e.helds e.paid
 
 pub overflow_add-drawn : goal.overflow_add-drawn
-overflow_add-drawn g c = omega (arith, drawn-fits (turn g c) c.requires.few c.requires.small)
+overflow_add-drawn g c = omega (arith, drawn-within (turn g c), c.requires)
 
 pub overflow_add-owed : goal.overflow_add-owed
-overflow_add-owed g c = omega (arith, owed-fits (turn g c) c.requires.few c.requires.small)
-
-pub loop-invoice-init : goal.loop-invoice-init
-loop-invoice-init g c = (going-none, (λ j d other. refl), (λ j d m. omega arith))
+overflow_add-owed g c = omega (arith, owed-within (turn g c), c.requires)
 
 pub loop-invoice-preserved : goal.loop-invoice-preserved
 loop-invoice-preserved g c =
@@ -42,9 +39,3 @@ loop-invoice-preserved g c =
           simp (w.list-is, w.row-is, w.drawn-is, w.owed-is)
           (early-turn s l (sym w.if-is_past_due.ensures), c.loop-invoice.invariant.1, c.loop-invoice.invariant.2)
     ]
-
-pub returns : goal.returns
-returns g c =
-    let l : length c.loop-invoice.list ≤ c.loop-invoice.invoice-index = omega arith in
-    let a = going-all c.loop-invoice.invariant.0 l in
-    record { outcome = cc (a.2, a.3); list = a.0; helds = a.1; others = c.loop-invoice.invariant.1; rooms = c.loop-invoice.invariant.2 }

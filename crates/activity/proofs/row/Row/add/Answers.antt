@@ -1,12 +1,12 @@
-use Rattle.std.proofs.Common.{◌≡◌, ◌<◌, true, false, List, length, ℤ, pos, sym, refl, ap, ◌∙◌, arith, w32, SFits}
+use Rattle.std.proofs.Common.{◌≡◌, ◌<◌, true, false, List, length, ℤ, refl, ap, ◌∙◌, arith, w32, SFits}
 use lib.Signed.{non_neg}
-use Rattle.std.proofs.lemmas.List.{get_or-map, map-set, length-map, length-set}
+use Rattle.std.proofs.lemmas.List.{map-set, length-map, length-set}
 use Rattle.std.proofs.lemmas.Result.{err_from_is_err_and}
 use Rattle.std.proofs.lemmas.Int.{to_z-of_z}
 use Rattle.activity.specs.declared.row.place.Place.TheVariants.{Energy, Interval}
 use Rattle.activity.specs.Rows.{kept_in, in_order}
 use Rattle.activity.specs.Signs.{energy_signed, interval_signed}
-use Rattle.activity.proofs.Adds.{refused, taken, kept-added, sign_kept, set-each}
+use Rattle.activity.proofs.Adds.{kept-read, refused, taken, kept-added, sign_kept, set-each}
 use Rattle.activity.proofs.row.Row.add.Goals as goal
 
 pub returns-in_err-self-in-Energy : goal.returns-in_err-self-in-Energy
@@ -17,7 +17,7 @@ returns-in_err-self-in-Energy c =
     let fits : SFits w32 q = c.ranges.quantity in
     let lt : k < length row.energy = omega (arith, row.thirteen, c.in-Energy.ensures.within) in
     let here = c.in-Energy.ensures.value in
-    let read = sym (get_or-map (λ e. e.sum) row.energy k c.index-self-k.result (pos 0) lt) in
+    let read = kept-read row.energy k c.index-self-k.result lt in
     let e = simp to_z-of_z at c.in_err-self-in-Energy.ensures in
     let p = err_from_is_err_and c.from_residual.result c.from_residual.ensures.1 in
     rw (p.1, p.2) (record { answer = refused (kept_in row) (Energy k) c.args.determinant _ q here read _ e; sums = refl })
@@ -30,7 +30,7 @@ invariant_of-self c =
     let fits : SFits w32 q = c.ranges.quantity in
     let lt : k < length row.energy = omega (arith, row.thirteen, c.in-Energy.ensures.within) in
     let here = c.in-Energy.ensures.value in
-    let read = sym (get_or-map (λ e. e.sum) row.energy k c.index-self-k.result (pos 0) lt) in
+    let read = kept-read row.energy k c.index-self-k.result lt in
     let e = simp to_z-of_z at c.in_ok-self-in-Energy.ensures in
     let signs = set-each (λ e. e.sum) (λ n z. energy_signed n ≡ false → non_neg z ≡ true) row.energy k c.in_ok-self-in-Energy.field-0 row.energy_signs (sign_kept (Energy k) c.args.determinant _ q _ here c.requires e (λ off. ap non_neg read ∙ row.energy_signs k off)) in
     record { thirteen = length-set row.energy k _ ∙ row.thirteen; three = row.three; energy_signs = signs; interval_signs = row.interval_signs }
@@ -43,7 +43,7 @@ returns-in_ok-self-in-Energy c =
     let fits : SFits w32 q = c.ranges.quantity in
     let lt : k < length row.energy = omega (arith, row.thirteen, c.in-Energy.ensures.within) in
     let here = c.in-Energy.ensures.value in
-    let read = sym (get_or-map (λ e. e.sum) row.energy k c.index-self-k.result (pos 0) lt) in
+    let read = kept-read row.energy k c.index-self-k.result lt in
     let e = simp to_z-of_z at c.in_ok-self-in-Energy.ensures in
     record {
       answer = taken (kept_in row) (Energy k) c.args.determinant _ q here read _ e;
@@ -59,7 +59,7 @@ returns-in_err-self-in-Interval c =
     let fits : SFits w32 q = c.ranges.quantity in
     let lt : k < length row.intervals = omega (arith, row.three, c.in-Interval.ensures.within) in
     let here = c.in-Interval.ensures.value in
-    let read = sym (get_or-map (λ i. i.sum) row.intervals k c.index-self-k-in-Interval.result (pos 0) lt) in
+    let read = kept-read row.intervals k c.index-self-k-in-Interval.result lt in
     let e = simp to_z-of_z at c.in_err-self-in-Interval.ensures in
     let p = err_from_is_err_and c.from_residual-in_err-self-in-Interval.result c.from_residual-in_err-self-in-Interval.ensures.1 in
     rw (p.1, p.2) (record { answer = refused (kept_in row) (Interval k) c.args.determinant _ q here read _ e; sums = refl })
@@ -72,7 +72,7 @@ invariant_of-self-in-Interval c =
     let fits : SFits w32 q = c.ranges.quantity in
     let lt : k < length row.intervals = omega (arith, row.three, c.in-Interval.ensures.within) in
     let here = c.in-Interval.ensures.value in
-    let read = sym (get_or-map (λ i. i.sum) row.intervals k c.index-self-k-in-Interval.result (pos 0) lt) in
+    let read = kept-read row.intervals k c.index-self-k-in-Interval.result lt in
     let e = simp to_z-of_z at c.in_ok-self-in-Interval.ensures in
     let signs = set-each (λ i. i.sum) (λ n z. interval_signed n ≡ false → non_neg z ≡ true) row.intervals k c.in_ok-self-in-Interval.field-0 row.interval_signs (sign_kept (Interval k) c.args.determinant _ q _ here c.requires e (λ off. ap non_neg read ∙ row.interval_signs k off)) in
     record { thirteen = row.thirteen; three = length-set row.intervals k _ ∙ row.three; energy_signs = row.energy_signs; interval_signs = signs }
@@ -85,7 +85,7 @@ returns-in_ok-self-in-Interval c =
     let fits : SFits w32 q = c.ranges.quantity in
     let lt : k < length row.intervals = omega (arith, row.three, c.in-Interval.ensures.within) in
     let here = c.in-Interval.ensures.value in
-    let read = sym (get_or-map (λ i. i.sum) row.intervals k c.index-self-k-in-Interval.result (pos 0) lt) in
+    let read = kept-read row.intervals k c.index-self-k-in-Interval.result lt in
     let e = simp to_z-of_z at c.in_ok-self-in-Interval.ensures in
     record {
       answer = taken (kept_in row) (Interval k) c.args.determinant _ q here read _ e;

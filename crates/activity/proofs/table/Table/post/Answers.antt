@@ -1,4 +1,4 @@
-use Rattle.std.proofs.Common.{◌≡◌, ◌<◌, List, length, Some, Ok, sym, refl, ap, ◌∙◌, arith, w32, SFits}
+use Rattle.std.proofs.Common.{◌≡◌, ◌<◌, List, length, Some, Ok, sym, refl, ap, ◌∙◌, arith, w32, SFits, rules}
 use Rattle.std.specs.Option.{option_map}
 use Rattle.std.proofs.lemmas.List.{map-set}
 use Rattle.std.proofs.lemmas.Result.{err_from_is_err_and}
@@ -16,16 +16,17 @@ pub returns-in_err-add : goal.returns-in_err-add
 returns-in_err-add c =
     let t = meaning c.args.self.now in
     let k = c.index-k.result in
-    let q = c.args.quantity in
+    let r = c.args.«record» in
+    let q = r.quantity in
     let d = c.in-Counted.determinant in
-    let fits : SFits w32 q = c.ranges.quantity in
-    let lt : k < length c.args.self.now.rows = omega (arith, c.args.self.now.full, c.index-k.ensures, c.in-Some.position.within) in
-    let at = ap (option_map index_of) c.in-Some.is ∙ ap Some (sym c.index-k.ensures) in
-    let counts : Ok (Counted d) ≡ ruled c.args.determinant c.args.mark q = ap Ok (sym c.in-Counted.is) ∙ simp to_z-of_z at c.in_ok-ruling.ensures.value in
+    let fits : SFits w32 q = search rules in
+    let lt : k < length c.args.self.now.rows = omega (arith, c.args.self.now.full, c.index-k.ensures, (c.in_ok-ok_or.field-0).within) in
+    let at = ap (option_map index_of) c.in_ok-ok_or.ensures.ok_part ∙ ap Some (sym c.index-k.ensures) in
+    let counts : Ok (Counted d) ≡ ruled r.determinant r.mark q = ap Ok (sym c.in-Counted.is) ∙ c.in_ok-ruling.ensures.value in
     let e = simp to_z-of_z at c.in_err-add.ensures in
     let p = err_from_is_err_and c.from_residual-in_err-add.result c.from_residual-in_err-add.ensures.1 in
     rw (p.1, p.2) (record {
-      answer = refused_post t c.args.state.now.month k c.args.determinant c.args.mark q d (option_map index_of c.args.participant) at counts (sym c.if-not-carries.ensures) _ (e.answer ∙ ap (λ s. add_answer s d q) (row_read _ k _ lt));
+      answer = refused_post t c.args.state.now.month k r.determinant r.mark q d (option_map index_of c.args.participant) at counts (sym c.if-not-carries.ensures) _ (e.answer ∙ ap (λ s. add_answer s d q) (row_read _ k _ lt));
       table = refl;
     })
 
@@ -33,15 +34,16 @@ pub returns-in_ok-add : goal.returns-in_ok-add
 returns-in_ok-add c =
     let t = meaning c.args.self.now in
     let k = c.index-k.result in
-    let q = c.args.quantity in
+    let r = c.args.«record» in
+    let q = r.quantity in
     let d = c.in-Counted.determinant in
-    let fits : SFits w32 q = c.ranges.quantity in
-    let lt : k < length c.args.self.now.rows = omega (arith, c.args.self.now.full, c.index-k.ensures, c.in-Some.position.within) in
-    let at = ap (option_map index_of) c.in-Some.is ∙ ap Some (sym c.index-k.ensures) in
-    let counts : Ok (Counted d) ≡ ruled c.args.determinant c.args.mark q = ap Ok (sym c.in-Counted.is) ∙ simp to_z-of_z at c.in_ok-ruling.ensures.value in
+    let fits : SFits w32 q = search rules in
+    let lt : k < length c.args.self.now.rows = omega (arith, c.args.self.now.full, c.index-k.ensures, (c.in_ok-ok_or.field-0).within) in
+    let at = ap (option_map index_of) c.in_ok-ok_or.ensures.ok_part ∙ ap Some (sym c.index-k.ensures) in
+    let counts : Ok (Counted d) ≡ ruled r.determinant r.mark q = ap Ok (sym c.in-Counted.is) ∙ c.in_ok-ruling.ensures.value in
     let e = simp to_z-of_z at c.in_ok-add.ensures in
     record {
-      answer = taken-post t c.args.state.now.month k c.args.determinant c.args.mark q d (option_map index_of c.args.participant) at counts (sym c.if-not-carries.ensures) (e.answer ∙ ap (λ s. add_answer s d q) (row_read _ k _ lt));
+      answer = taken-post t c.args.state.now.month k r.determinant r.mark q d (option_map index_of c.args.participant) at counts (sym c.if-not-carries.ensures) (e.answer ∙ ap (λ s. add_answer s d q) (row_read _ k _ lt));
       table = ap (λ (x : List Sums). record { month = t.month; rows = x }) (map-set sums_of c.args.self.now.rows k _)
-          ∙ counted-table t c.args.state.now.month k c.args.determinant c.args.mark q d (option_map index_of c.args.participant) at counts _ (e.sums ∙ ap (λ s. added s d q) (row_read _ k _ lt));
+          ∙ counted-table t c.args.state.now.month k r.determinant r.mark q d (option_map index_of c.args.participant) at counts _ (e.sums ∙ ap (λ s. added s d q) (row_read _ k _ lt));
     }

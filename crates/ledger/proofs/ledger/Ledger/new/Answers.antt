@@ -1,6 +1,5 @@
-use Rattle.std.proofs.Common.{refl, ap, arith}
-use Rattle.ledger.proofs.Secured.{zeros-small}
+use Rattle.std.proofs.Common.{ap, arith}
 use Rattle.ledger.proofs.ledger.Ledger.new.Goals as goal
 
 pub invariant_of-result : goal.invariant_of-result
-invariant_of-result c = record { laid = refl; small = zeros-small 32; numbered = omega (arith, ap (λ b. b.next) c.in_ok-receivables.ensures); in_time = omega arith }
+invariant_of-result c = record { numbered = omega (arith, ap (λ b. b.next) c.in_ok-receivables.ensures); in_time = omega arith }

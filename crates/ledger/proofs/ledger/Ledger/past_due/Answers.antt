@@ -15,7 +15,7 @@ returns-then-row-counter_parties g c =
     let hs = map g.I.Instrument.held c.args.row.now in
     let short : length hs < length s.register.parties = omega (arith, length-map c.args.row.now g.I.Instrument.held, c.if-row-counter_parties.true, ap length c.counter_parties.ensures.numbers) in
     record {
-      answer = no_row s hs c.args.day c.args.minute (when c.in_ok-at.at) c.in_ok-at.ensures short;
+      answer = no_row s hs c.args.stamp.day c.args.stamp.minute (when c.in_ok-at.at) c.in_ok-at.ensures short;
       model = refl;
       helds = refl;
       others = λ j d u. refl;
@@ -31,11 +31,11 @@ returns g c =
     let hs = map g.I.Instrument.held row in
     let w = when c.in_ok-at.at in
     let e = c.past_due-outcome.ensures in
-    let is = moment-is s hs c.args.day c.args.minute w c.in_ok-at.ensures in
+    let is = moment-is s hs c.args.stamp.day c.args.stamp.minute w c.in_ok-at.ensures in
     let long : length s.register.parties ≤ length hs = omega (arith, length-map row g.I.Instrument.held, c.if-row-counter_parties.false, ap length c.counter_parties.ensures.numbers) in
     let after : Book → When → Model = λ b v. record { register = s.register; book = b; charges = s.charges; moment = Some v; month = s.month } in
     record {
-      answer = run_ok s hs c.args.day c.args.minute w c.in_ok-at.ensures long _ e.outcome;
+      answer = run_ok s hs c.args.stamp.day c.args.stamp.minute w c.in_ok-at.ensures long _ e.outcome;
       model = ap (λ b. after b w) e.book ∙ ap (λ v. after (after_run (is_past_due v) s.book hs) v) is;
       helds = e.helds ∙ ap (λ v. helds (is_past_due v) s.book.invoices hs) is;
       others = λ j d u. e.others j d (subst (λ v. Untouched (is_past_due v) j s.book.invoices) (sym is) u);

@@ -1,4 +1,4 @@
-use Rattle.std.proofs.Common.{◌≡◌, ◌-◌, ◌<◌, min, map, length, get_or, sym, ap, ◌∙◌, arith}
+use Rattle.std.proofs.Common.{◌≡◌, ◌-◌, ◌*◌, ◌<◌, min, map, length, get_or, sym, ap, ◌∙◌, arith}
 use Rattle.std.proofs.lemmas.List.{length-map, get_or-map}
 use Rattle.std.proofs.lemmas.Result.{err_from_is_err_and}
 use Rattle.foundation.specs.Limits.{most_held}
@@ -26,6 +26,7 @@ returns g c =
     let lt : k < length row = omega (arith, c.in_ok-place.ensures.within) in
     let read : get_or hs k 0 ≡ g.I.Instrument.held c.index-row-place.result = get_or-map g.I.Instrument.held row k _ 0 lt ∙ ap g.I.Instrument.held (sym c.index-row-place.is) in
     let h : c.held-held.result ≡ held_at hs k = c.held-held.ensures ∙ ap (λ n. min n most_held) (sym read) in
-    let u : c.saturating_sub.result ≡ exposure_at s k - held_at hs k = c.saturating_sub.ensures ∙ ap (λ n. exposure_at s k - n) h in
+    let x : 2 * c.at-exposure.result ≡ exposure_at s k = ap (λ n. 2 * n) c.at-exposure.ensures in
+    let u : c.saturating_sub.result ≡ exposure_at s k - held_at hs k = c.saturating_sub.ensures ∙ ap (λ n. n - c.held-held.result) x ∙ ap (λ n. exposure_at s k - n) h in
     let o = c.owed_by.ensures in
-    report-ok s hs c.args.counter_party k at _ (cc (o, h, u))
+    report-ok s hs c.args.counter_party k at _ (cc (o, x, h, u))

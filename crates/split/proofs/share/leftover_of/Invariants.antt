@@ -1,7 +1,0 @@
-use Rattle.std.proofs.Common.{◌≡◌, ◌+◌}
-use Rattle.foundation.specs.Counting.{total}
-use Rattle.split.specs.Split.{whole_part}
-use Rattle.split.proofs.share.leftover_of.Given as goal
-
-abbrev pub invariant-loop-a : goal.invariant-loop-a
-invariant-loop-a l = l.left + total (whole_part l.amount l.activities) l.a-index ≡ l.amount
