@@ -59,9 +59,6 @@ module _ (v : Group → ℤ) where
     pub is : top.count ≡ fold int_max (pos 0) (map v gs)
     pub first : get_or gs 0 Load ≡ Generation → pos 0 ≤ℤ v Generation
 
-  pub top_none : (z : Quarters) → z.count ≡ pos 0 → Top [] z
-  top_none z e = record { is = e; first = λ h. absurd (not-load (sym h)) }
-
   first-more : (gs : List Group) (g : Group) → (get_or gs 0 Load ≡ Generation → pos 0 ≤ℤ v Generation) → (¬ (g ≡ Load) → pos 0 ≤ℤ v g) → get_or (gs ++ g ∷ []) 0 Load ≡ Generation → pos 0 ≤ℤ v Generation
   first-more [] g was here e = subst (λ x. pos 0 ≤ℤ v x) e (here (λ l. not-load (sym e ∙ l)))
   first-more (h ∷ gs) g was here e = was e

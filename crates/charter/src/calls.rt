@@ -22,6 +22,7 @@ pub(crate) struct Lent<'a, C> {
 impl<'a, C: Calendar> Lent<'a, C> {
     // The remark that names an invoice.
     fn remark(&self, invoice: Option<usize>) -> Option<&'a [u8]> {
+        // A match: `map_or` would put the exception first.
         match invoice {
             Some(number) => self.remarks.get(number).map(|text| text.as_bytes()),
             None => Some(UNNAMED),
@@ -87,10 +88,10 @@ pub(crate) fn carry_steps<'a, C: Calendar>(
     lent: &Lent<'a, C>,
     steps: &[Planned],
 ) -> anyhow::Result<Carried> {
-    let mut calls = Vec::new(heap);
-    for planned in steps {
-        calls.push(lent.call(planned.step)?)?;
-    }
+    let calls: Vec<Call<'a, C>> = steps
+        .iter()
+        .map(|planned| lent.call(planned.step))
+        .try_collect(heap)?;
     let mut row = [Pair {
         first: Cash::new(),
         second: Letter::new(),

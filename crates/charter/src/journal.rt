@@ -8,7 +8,7 @@ use std::alloc::{AllocError, Global};
 type Reply = Result<Answer, Fault>;
 
 // Cents of accepted calls, and how many calls were refused. `due_day` is the last bill's.
-#[derive(Clone, Copy)]
+#[derive(Clone, Copy, Default)]
 pub(crate) struct Totals {
     pub(crate) billed: u64,
     pub(crate) paid: u64,
@@ -20,18 +20,6 @@ pub(crate) struct Totals {
 }
 
 impl Totals {
-    fn new() -> Totals {
-        Totals {
-            billed: 0,
-            paid: 0,
-            paid_late: 0,
-            funded: 0,
-            drawn: 0,
-            refused: 0,
-            due_day: None,
-        }
-    }
-
     fn add_payment(&mut self, step: Step) {
         self.paid = self.paid.saturating_add(step.cents());
         if self.due_day.is_some_and(|day| step.is_paid_after(day)) {
@@ -55,7 +43,7 @@ impl Totals {
 }
 
 // One Counter-Party's cents. `owed` and `held` are as last answered.
-#[derive(Clone, Copy)]
+#[derive(Clone, Copy, Default)]
 pub(crate) struct Account {
     pub(crate) charged: u64,
     pub(crate) paid: u64,
@@ -66,17 +54,6 @@ pub(crate) struct Account {
 }
 
 impl Account {
-    fn new() -> Account {
-        Account {
-            charged: 0,
-            paid: 0,
-            drawn: 0,
-            owed: 0,
-            held: 0,
-            is_billed: false,
-        }
-    }
-
     // The first report after a bill has twice its charge as exposure. Only runs lower what is held.
     fn hear(&mut self, report: Report) {
         if self.is_billed {
@@ -144,7 +121,7 @@ impl Journal {
 
     // From one year to another, both included.
     pub(crate) fn totals(&self, first: u16, last: u16) -> Totals {
-        let mut totals = Totals::new();
+        let mut totals = Totals::default();
         for entry in self.entries.iter() {
             if (first..=last).contains(&entry.planned.year) {
                 totals.add(entry.planned.step, entry.reply);
@@ -155,7 +132,7 @@ impl Journal {
 
     // A Counter-Party's account at the end of a year.
     pub(crate) fn account(&self, number: u16, last: u16) -> Account {
-        let mut account = Account::new();
+        let mut account = Account::default();
         for entry in self.entries.iter() {
             let planned = entry.planned;
             if let Ok(answer) = entry.reply

@@ -140,8 +140,8 @@ impl MarketMonth {
         let collecting = table.open(month);
         for meter in METERS.iter().filter(|meter| meter.since <= month) {
             let record = Record {
-                determinant: meter.determinant as u8,
-                mark: meter.mark.map_or(0, |mark| mark as u8),
+                determinant: u8::from(meter.determinant),
+                mark: meter.mark.map_or(0, u8::from),
                 quantity: quantity(*meter, month),
             };
             table
@@ -171,9 +171,7 @@ impl MarketMonth {
 
 // The months by their numbers.
 pub(crate) fn collect_months(heap: Global) -> anyhow::Result<Vec<MarketMonth>> {
-    let mut months = Vec::new(heap);
-    for month in 0..MONTHS {
-        months.push(MarketMonth::collect(month)?)?;
-    }
-    Ok(months)
+    (0..MONTHS)
+        .map(|month| -> anyhow::Result<MarketMonth> { MarketMonth::collect(month) })
+        .try_collect(heap)
 }

@@ -77,9 +77,9 @@ impl Month {
         heap: Global,
         market: &MarketMonth,
         calendar: &C,
-        number: u16,
         issued: usize,
     ) -> anyhow::Result<Month> {
+        let number = market.month.month();
         let cents = cents_of(number);
         let charges = market.expected_charges(cents)?;
         let bill_day = first_day(number.saturating_add(1));

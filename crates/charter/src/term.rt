@@ -1,7 +1,7 @@
 // The whole term: its months are planned, carried out by one call, and printed.
 use crate::calls::{Lent, carry_steps};
 use crate::journal::Journal;
-use crate::market::{MONTHS, MarketMonth, collect_months};
+use crate::market::{MarketMonth, collect_months};
 use crate::month::Month;
 use crate::plan::Plan;
 use crate::printing::print_term;
@@ -20,8 +20,8 @@ fn plan_months<C: Calendar>(
     calendar: &C,
 ) -> anyhow::Result<Plan> {
     let mut plan = Plan::new(heap);
-    for (market, number) in months.iter().zip(0..MONTHS) {
-        let month = Month::expected(heap, market, calendar, number, plan.invoices)?;
+    for market in months {
+        let month = Month::expected(heap, market, calendar, plan.invoices)?;
         month.add_to(&mut plan)?;
     }
     Ok(plan)

@@ -23,6 +23,11 @@ fn determinants(rt: HostRuntime) {
     assert_eq!(rt; Determinant::Mebl.unit(), Unit::MegawattHour);
     assert_eq!(rt; Determinant::Rtqqep.unit(), Unit::MegawattOverQuarterHour);
     assert_eq!(rt; Determinant::Obls.group().number(), 8);
+    assert_eq!(rt; u8::from(Determinant::Opts), 13);
+    assert_eq!(rt; u8::from(Mark::RucInterval), 2);
+    for (group, number) in Group::ALL.iter().zip(1..=9) {
+        assert_eq!(rt; group.number(), number);
+    }
 }
 
 // Determinants 1 and 2 in one group, two Counter-Parties, and a marked record that is not added.

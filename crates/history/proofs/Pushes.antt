@@ -35,12 +35,6 @@ asked-more ask calls i c within read =
     let grown = ap (λ x. take i calls ++ x ∷ []) read ∙ sym (take_more calls i c within) in
     rw (← grown) (map_push ask (take i calls) c)
 
-module _ {X : Type 0} (ask : X → Request) where
-  pub one_more : (account : ℕ) (calls : List X) (rs rs' : List Reply) (row : List Security) (t u : State) (i : ℕ) (c : X) (r : Reply) → i < length calls → c ≡ get_or calls i c → rs' ≡ rs ++ r ∷ [] → History account (map ask (take i calls)) rs row t → Step t (ask c) r u
-      → History account (map ask (take (i + 1) calls)) rs' row u
-  one_more account calls rs rs' row t u i c r within read said h step =
-      rw (asked-more ask calls i c within read, said) (history-push account row t u (ask c) r h step)
-
 -- ---- the same of a history with what else holds of its calls
 pub whole-none : (account : ℕ) (row : List Security) → WholeHistory account [] [] row (begin account row)
 unfolding history-none

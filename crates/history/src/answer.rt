@@ -4,7 +4,7 @@ use receivables::Outcome;
 
 // Registering and enrolling answer nothing; a bill its invoices; a payment the balance left; a funding what is
 // then held; a past-due run what it drew and what is still owed; a report its four numbers.
-#[derive(Clone, Copy)]
+#[derive(Clone, Copy, PartialEq, Eq, Debug)]
 pub enum Answer {
     Done,
     Issued(Billed),

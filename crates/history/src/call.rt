@@ -26,6 +26,7 @@ pub enum Call<'a, C> {
     },
     Fund {
         counter_party: u16,
+        // A number from outside: any other than a means' is refused.
         means: u8,
         amount: u64,
     },

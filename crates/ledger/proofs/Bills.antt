@@ -1,5 +1,5 @@
 -- What the steps of a bill give together. Assumes nothing.
-use Rattle.std.proofs.Common.{◌≡◌, ℕ, zero, suc, ◌+◌, ◌≤◌, Bool, true, false, cond, ◌&&◌, ltb, leb, List, [], ◌∷◌, ◌++◌, length, get_or, replicate, is_some, Some, None, Ok, Err, sum, Option, Result, unwrap_or, sym, refl, ap, ◌∙◌, subst, ⊎_elim, arith, ltb-true, le-leb, leb-true}
+use Rattle.std.proofs.Common.{◌≡◌, ℕ, zero, suc, ◌+◌, ◌≤◌, Bool, true, false, cond, ◌&&◌, ltb, leb, List, [], ◌∷◌, ◌++◌, length, get_or, replicate, is_some, Ok, Err, sum, Result, unwrap_or, sym, refl, ap, ◌∙◌, subst, ⊎_elim, arith, le-leb, leb-true}
 use Rattle.std.proofs.lemmas.List.FromFn.{length-map-range_with_len, get_or-map-range_with_len}
 use Rattle.std.proofs.lemmas.List.{get_or_past}
 use Rattle.std.proofs.lemmas.List.Sums.{get_or-le-sum_by}
@@ -28,7 +28,6 @@ use Rattle.ledger.specs.declared.fault.Fault.{Fault}
 use Rattle.ledger.specs.declared.fault.Fault.TheVariants.{DueDay, Receivable}
 use Rattle.ledger.specs.Bill.{activities_of, charges_of, laid_charges, bills, bills_of, charge_asks, charge_answer, place_asks, place_answer, bill_answer}
 use Rattle.ledger.specs.Charges.{laid}
-use Rattle.ledger.specs.Months.{months_billed}
 use Rattle.ledger.specs.Model.{Model, is_later}
 use Rattle.ledger.specs.Pay.{moment_asks, moment_answer}
 
@@ -41,10 +40,6 @@ amount-is cents amount h =
 pub laid-ok : (cs out : List ℕ) (r : Result ℕ SplitFault) → Ok out ≡ laid cs r → (m : ℕ) × (Ok m ≡ r) × (out ≡ laid_out cs 32)
 laid-ok cs out (Ok m) h = (m, refl, cc)
 laid-ok cs out (Err f) h = absurd (let z : ◌≡◌ {A = ℕ} 0 1 = cc in omega arith)
-
-pub laid-err : (cs : List ℕ) (f : SplitFault) (r : Result ℕ SplitFault) → Err f ≡ laid cs r → Err f ≡ r
-laid-err cs f (Ok m) h = absurd (let z : ◌≡◌ {A = ℕ} 0 1 = cc in omega arith)
-laid-err cs f (Err g) h = cc
 
 module _ (s : Model) (t : TableMeaning) (month amount : ℕ) where
   pub charged : (cents n : ℕ) (us xs out : List ℕ) → Ok tt ≡ activities_answer t month → Ok cents ≡ amount_answer amount → month ≤ 959 → is_later s.month month ≡ true
@@ -135,17 +130,7 @@ zeros-small zero k = omega arith
 zeros-small (suc n) zero = omega arith
 zeros-small (suc n) (suc k) = zeros-small n k
 
-later-months : (o : Option ℕ) (m : ℕ) → is_later o m ≡ true → months_billed o ≤ m
-later-months None m h = omega arith
-later-months (Some last) m h = omega (arith, ltb-true last m h)
-
 module _ (s : Model) (t : TableMeaning) (month amount : ℕ) where
-  -- an accepted month comes after those billed
-  pub next-month : (out : List ℕ) → Ok out ≡ charge_answer s t month amount → (month ≤ 959) × (months_billed s.month ≤ month)
-  next-month out h =
-      let both = and_parts (leb month 959) (is_later s.month month) (all_hold (charge_asks s t month amount) _ out (sym h)).1.1.0 in
-      (leb-true month 959 both.0, later-months s.month month both.1)
-
   -- an accepted amount leaves every charge small
   pub small-charges : (out : List ℕ) → Ok out ≡ charge_answer s t month amount → FairSplit amount (activities_of s t) (charges_of s t amount) → (out ≡ laid_charges s t amount) × ((k : ℕ) → get_or out k 0 ≤ 4294967295)
   small-charges out h fair =

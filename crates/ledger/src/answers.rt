@@ -1,7 +1,7 @@
 // What a bill and a report answer.
 
 // How many invoices were issued, the number of the first, and the day they are due.
-#[derive(Clone, Copy)]
+#[derive(Clone, Copy, PartialEq, Eq, Debug)]
 pub struct Billed {
     pub count: usize,
     pub first: u32,
@@ -9,7 +9,7 @@ pub struct Billed {
 }
 
 // Balances owed, exposure, cents held, and what the exposure is above them.
-#[derive(Clone, Copy)]
+#[derive(Clone, Copy, PartialEq, Eq, Debug)]
 pub struct Report {
     pub owed: u64,
     pub exposure: u64,

@@ -6,7 +6,7 @@ ghost use Rattle.ledger.specs.declared.fault.Fault.TheVariants as fault;
 
 use security::{FundingRefused, UnknownMeans};
 
-#[derive(Clone, Copy)]
+#[derive(Clone, Copy, PartialEq, Eq, Debug)]
 pub enum Fault {
     NoMoment,
     Before,
@@ -27,6 +27,7 @@ impl Fault {
     pub fn number(self) -> u8
         ensures { result ≡ number_of self }
     {
+        // A match: variants that hold a part's refusal have no discriminant.
         match self {
             Fault::NoMoment => 6,
             Fault::Before => 7,

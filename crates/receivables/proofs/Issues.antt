@@ -1,6 +1,6 @@
 -- Issuing invoices, one at a time. Assumes nothing.
-use Rattle.std.proofs.Common.{◌≡◌, ℕ, ◌+◌, ◌<◌, ◌≤◌, true, false, cond, ltb, List, [], ◌∷◌, ◌++◌, length, get_or, drop, sym, refl, ap, ◌∙◌, add-zero, arith, length-append}
-use Rattle.std.proofs.lemmas.List.{at_drop_more, at_drop_all, append_assoc, append-nil}
+use Rattle.std.proofs.Common.{◌≡◌, ℕ, ◌+◌, ◌<◌, ◌≤◌, true, false, cond, ltb, List, [], ◌∷◌, ◌++◌, length, get_or, drop, sym, refl, ap, ◌∙◌, arith, length-append}
+use Rattle.std.proofs.lemmas.List.{at_drop_more, append_assoc}
 use Rattle.std.specs.List.{count_by}
 use Rattle.std.proofs.lemmas.List.Recursion.{is_count_by}
 use Rattle.std.proofs.lemmas.Bool.{cond-true, cond-false, lt-ltb, le-ltb}
@@ -11,12 +11,6 @@ use Rattle.receivables.specs.Issued.{issued, positive, issued_from, after_issue}
 
 book-same : (vs ws : List Invoice) (n m a : ℕ) → vs ≡ ws → n ≡ m → ◌≡◌ {A = Book} (record { invoices = vs; next = n; account = a }) (record { invoices = ws; next = m; account = a })
 book-same vs ws n m a p q = rw (p, q)
-
--- one charge above 0
-pub issued-one : (b : Book) (due : ℕ) (c : Charge) (vs : List Invoice) → 0 < c.cents → vs ≡ b.invoices ++ issued b.next due c ∷ [] → ◌≡◌ {A = Book} (record { invoices = vs; next = b.next + 1; account = b.account }) (after_issue b due (c ∷ []))
-issued-one b due c vs h e =
-    let on = lt-ltb 0 c.cents h in
-    book-same _ _ _ _ _ (e ∙ ap (λ x. b.invoices ++ x) (sym (cond-true _ _ _ on))) (ap (λ x. b.next + x) (sym (cond-true _ _ _ on)))
 
 unfoldable pub no-charge : Charge
 no-charge = record { billed = 0; position = 0; cents = 0 }
@@ -52,10 +46,6 @@ module _ (cs : List Charge) (i : ℕ) (c : Charge) (here : c ≡ get_or cs i c) 
 
 pub positive-count : (cs : List Charge) → count_by (λ c. ltb 0 c.cents) cs ≡ positive cs
 positive-count cs = sym (is_count_by positive (λ c. ltb 0 c.cents) refl (λ c ds. refl) cs)
-
-pub issuing-all : (b : Book) (due : ℕ) (cs : List Charge) (i : ℕ) (whole : Book) → length cs ≤ i → after_issue b due (drop i cs) ≡ whole → b ≡ whole
-issuing-all b due cs i whole h so =
-    sym (rw (at_drop_all positive cs i h, at_drop_all (issued_from b.next due) cs i h, append-nil b.invoices, add-zero b.next)) ∙ so
 
 pub issued-length : (n due : ℕ) (cs : List Charge) → length (issued_from n due cs) ≡ positive cs
 issued-length n due [] = refl

@@ -1,6 +1,6 @@
 -- How far a past-due run has come, in a loop: what is left of the list, from the amounts now held, gives what the whole gives. Assumes nothing.
-use Rattle.std.proofs.Common.{◌≡◌, ℕ, ◌+◌, ◌<◌, ◌≤◌, Bool, true, false, cond, List, [], ◌∷◌, ◌++◌, length, get_or, take, drop, set, sym, refl, ap, ◌∙◌, subst, append_assoc, add-zero, add_assoc, zero-add, arith}
-use Rattle.std.proofs.lemmas.List.{take_more_set, drop_more, drop-set-lt, length-set, set-get_or, take_all, drop_all, append-nil, get_or_default}
+use Rattle.std.proofs.Common.{◌≡◌, ℕ, ◌+◌, ◌<◌, ◌≤◌, Bool, true, false, cond, List, [], ◌∷◌, ◌++◌, length, get_or, take, drop, set, sym, ap, ◌∙◌, subst, append_assoc, add-zero, add_assoc, arith}
+use Rattle.std.proofs.lemmas.List.{take_more_set, drop_more, drop-set-lt, length-set, set-get_or, get_or_default}
 use Rattle.std.proofs.lemmas.List.Sums.{sum_by-cons}
 use Rattle.std.proofs.ByRecursion.{All-drop}
 use Rattle.receivables.specs.declared.invoice.State.{State}
@@ -21,9 +21,6 @@ pub record Going (past : Invoice → Bool) (vs : List Invoice) (hs : List ℕ) (
   pub owed_so : o + owed past (drop i vs) ks ≡ owed past vs hs
 
 module _ {past : Invoice → Bool} {vs : List Invoice} {hs : List ℕ} where
-  pub going-none : Going past vs hs 0 vs hs 0 0
-  going-none = record { list = refl; rest = refl; long = refl; held = refl; paid_so = zero-add _; owed_so = zero-add _ }
-
   module _ {i : ℕ} {ws : List Invoice} {ks : List ℕ} {d o : ℕ} (s : Going past vs hs i ws ks d o) where
     -- the invoice at i is as the list had it
     pub next-is : (v : Invoice) → i < length ws → v ≡ get_or ws i v → drop i vs ≡ v ∷ drop (i + 1) vs
@@ -67,15 +64,6 @@ module _ {past : Invoice → Bool} {vs : List Invoice} {hs : List ℕ} where
         let g : Going past vs hs (i + 1) (set ws i v) ks (d + 0) (o + 0) = subst P p (going_more v l e) in
         let same : set ws i v ≡ ws = ap (set ws i) e ∙ set-get_or ws i v in
         rw same at (rw (add-zero d) at (rw (add-zero o) at g))
-
-    pub going-all : length ws ≤ i → (ws ≡ drawn_all past vs hs) × (ks ≡ helds past vs hs) × (d ≡ drawn past vs hs) × (o ≡ owed past vs hs)
-    going-all l =
-        let n : drop i vs ≡ [] = (let le : length vs ≤ i = omega (arith, s.long) in drop_all i vs le) in (
-          sym (append-nil ws) ∙ sym (ap (λ xs. xs ++ []) (take_all i ws l)) ∙ sym (ap (λ xs. take i ws ++ drawn_all past xs ks) n) ∙ s.list,
-          sym (ap (λ xs. helds past xs ks) n) ∙ s.held,
-          sym (add-zero d) ∙ sym (ap (λ xs. d + drawn past xs ks) n) ∙ s.paid_so,
-          sym (add-zero o) ∙ sym (ap (λ xs. o + owed past xs ks) n) ∙ s.owed_so,
-        )
 
 module _ {past : Invoice → Bool} {vs : List Invoice} {hs : List ℕ} {i : ℕ} {ws : List Invoice} {ks : List ℕ} {d o : ℕ} (s : Going past vs hs i ws ks d o) (l : i < length ws) where
   -- the turn of a past-due invoice, by what the code holds of it

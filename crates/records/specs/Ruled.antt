@@ -4,6 +4,7 @@ use Rattle.std.specs.Int.Signed.{non_neg}
 use Rattle.foundation.specs.Questions.{Question, asks, verdict}
 use Rattle.records.specs.declared.fault.Fault.{Fault}
 use Rattle.records.specs.declared.fault.Fault.TheVariants as fault
+use Rattle.records.specs.declared.ruling.Mark.{Mark}
 use Rattle.records.specs.declared.ruling.Mark.TheVariants.{RmrResource, RucInterval}
 use Rattle.records.specs.declared.ruling.Ruling.{Ruling}
 use Rattle.records.specs.declared.ruling.Ruling.TheVariants.{Counted, Excluded}
@@ -19,6 +20,10 @@ sign_allowed d q = non_neg q || (d == 3 || d == 4)
 
 abbrev pub record_asks : ℕ → ℕ → ℤ → List (Question Fault)
 record_asks d m q = asks (nat_le 1 d && nat_le d 16) fault.Determinant ∷ asks (mark_allowed d m) fault.Mark ∷ asks (sign_allowed d q) fault.Sign ∷ []
+
+abbrev pub mark_number : Mark → ℕ
+mark_number RmrResource = 1
+mark_number RucInterval = 2
 
 -- mark 0 counts; 1 is an RMR Resource, 2 a RUC-Committed Interval, and neither is added
 abbrev pub ruling : ℕ → ℕ → Ruling

@@ -36,7 +36,7 @@ pub enum Unit {
 }
 
 // Determinants whose quantities are added.
-#[derive(Clone, Copy)]
+#[derive(Clone, Copy, PartialEq, Eq, Debug)]
 pub enum Group {
     Generation = 1,
     Load = 2,
@@ -74,6 +74,14 @@ impl TryFrom<u8> for Determinant {
             16 => Ok(Determinant::Oblp),
             _ => Err(Fault::Determinant),
         }
+    }
+}
+
+impl From<Determinant> for u8 {
+    ghost from_gives = { λ d n. n ≡ (facts d).number };
+
+    fn from(determinant: Determinant) -> u8 {
+        determinant as u8
     }
 }
 

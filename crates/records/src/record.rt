@@ -19,6 +19,7 @@ impl Record {
         ensures value { result ≡ answer self.determinant self.mark self.quantity }
         ensures sign { IfOk result (λ x. SignOk x self.quantity) }
     {
+        // A match on ranges with guards: a rule of the project (docs/DECISIONS.md).
         match self.determinant {
             0 | 17.. => Err(Fault::Determinant),
             1 if self.mark > 2 => Err(Fault::Mark),

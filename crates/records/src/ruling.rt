@@ -1,5 +1,6 @@
 // What becomes of a record: why it is left out, or what it counts for.
-ghost use Rattle.std.specs.Prelude.{Some};
+ghost use Rattle.std.specs.Prelude.{◌≡◌, Some};
+ghost use Rattle.records.specs.Ruled.{mark_number};
 ghost use Rattle.records.specs.Texts.{mark_text};
 
 use crate::determinant::Determinant;
@@ -17,6 +18,14 @@ pub enum Mark {
 pub enum Ruling {
     Counted(Determinant),
     Excluded(Mark),
+}
+
+impl From<Mark> for u8 {
+    ghost from_gives = { λ mark n. n ≡ mark_number mark };
+
+    fn from(mark: Mark) -> u8 {
+        mark as u8
+    }
 }
 
 impl fmt::Display for Mark {

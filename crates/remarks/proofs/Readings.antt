@@ -23,34 +23,7 @@ module _ (most : ℕ) (text : List ℕ) where
   abbrev pub Reading : ℕ → ℕ → Type 0
   Reading i n = (i ≤ most) × (number_from_digits_after 10 n (digits (drop i text)) ≡ number_from_digits 10 (digits text)) × (length (digits text) ≡ i + length (digits (drop i text))) × (n < 10 ^ i)
 
-  pub read_none : Reading 0 0
-  read_none = (omega arith, refl, omega arith, omega arith)
-
   module _ (i n : ℕ) (so : Reading i n) where
-    stop : digits (drop i text) ≡ [] → Some n ≡ read_number most text
-    stop e =
-        let long : length (digits text) ≡ i = omega (arith, so.2, ap length e) in
-        let value : n ≡ number_from_digits 10 (digits text) = sym (ap (number_from_digits_after 10 n) e) ∙ so.1 in
-        ap Some value ∙ sym (cond-true (leb (length (digits text)) most) _ _ (le-leb (length (digits text)) most (omega (arith, so.0))))
-
-    pub read_all : length text ≤ i → Some n ≡ read_number most text
-    read_all h = stop (at_drop_all digits text i h)
-
-    pub read-stop : i < length text → is_digit (get_or text i 0) ≡ false → Some n ≡ read_number most text
-    read-stop lt off = stop (at_drop_more digits text i 0 lt ∙ cond-false (is_digit (get_or text i 0)) _ _ off)
-
-    on : i < length text → is_digit (get_or text i 0) ≡ true → digits (drop i text) ≡ (get_or text i 0 - 48) ∷ digits (drop (i + 1) text)
-    on lt digit = at_drop_more digits text i 0 lt ∙ cond-true (is_digit (get_or text i 0)) _ _ digit
-
-    pub read-many : i ≡ most → i < length text → is_digit (get_or text i 0) ≡ true → None ≡ read_number most text
-    read-many e lt digit = sym (cond-false (leb (length (digits text)) most) _ _ (lt-leb (length (digits text)) most (omega (arith, so.2, ap length (on lt digit)))))
-
-    pub read_more : (i ≡ most → ⊥) → i < length text → is_digit (get_or text i 0) ≡ true → Reading (i + 1) (n * 10 + (get_or text i 0 - 48))
-    read_more ne lt digit =
-        let r = digit-range (get_or text i 0) digit in
-        let p : 10 ^ (i + 1) ≡ 10 ^ i * 10 = rw add-one (pow-suc 10 i) in
-        (omega (arith, so.0), sym (ap (number_from_digits_after 10 n) (on lt digit)) ∙ so.1, omega (arith, so.2, ap length (on lt digit)), omega (arith, so.3, p, r.0, r.1))
-
     pub read_fits : most ≤ 9 → (i ≡ most → ⊥) → n < 10 ^ 8
     read_fits nine ne =
         let up : 10 ^ i ≤ 10 ^ 8 = (let small : i ≤ 8 = omega (arith, so.0) in pow-le-pow_right {n = 10} (omega arith) small) in

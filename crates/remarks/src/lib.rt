@@ -4,7 +4,7 @@
 ghost use Rattle.std.specs.Prelude.{◌≡◌, ◌≤◌, length};
 ghost use Rattle.foundation.specs.Counting.{first};
 ghost use Rattle.remarks.specs.Digits.{most_of};
-ghost use Rattle.remarks.specs.Remarks.{is_mark, is_marked, read_number, named, NamedAnswer};
+ghost use Rattle.remarks.specs.Remarks.{is_marked, read_number, named, NamedAnswer};
 
 mod digits;
 

@@ -41,7 +41,8 @@ impl Instrument for Letter {
         }
     }
 
-    // The face stays, and so does the room.
+    // The face stays, and so does the room. A clause of the trait that stands here again, and at `fund`, doesn't
+    // follow from the others.
     fn draw(&mut self, n: u64) -> u64
         ensures paid { result ≡ min n (self.old.face - self.old.drawn) }
         ensures face { self.new.face ≡ self.old.face }

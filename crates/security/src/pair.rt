@@ -28,7 +28,8 @@ impl<F: Instrument, S: Instrument> Instrument for Pair<F, S> {
         self.first.room(means).max(self.second.room(means))
     }
 
-    // From the first, then the rest from the second.
+    // From the first, then the rest from the second. A clause of the trait that stands here again, and at `fund`,
+    // doesn't follow from the others.
     fn draw(&mut self, n: u64) -> u64
         ensures paid { result ≡ min n (F.Instrument.held self.old.first + S.Instrument.held self.old.second) }
         ensures rooms { (m : Means) → max (F.Instrument.room self.old.first m) (S.Instrument.room self.old.second m) ≤ max (F.Instrument.room self.new.first m) (S.Instrument.room self.new.second m) }

@@ -1,19 +1,7 @@
 -- The sum of all activities, one at a time. Assumes nothing.
-use Rattle.std.proofs.Common.{◌≡◌, ℕ, ◌+◌, ◌*◌, ◌/◌, ◌%◌, ◌<◌, ◌≤◌, true, leb, List, length, get_or, drop, Ok, sum, sym, ap, ◌∙◌, arith, leb-true}
-use Rattle.std.proofs.lemmas.List.{at_drop_more, at_drop_all}
-use Rattle.std.proofs.lemmas.List.Sums.{sum_by-cons, get_or-le-sum_by}
+use Rattle.std.proofs.Common.{◌≡◌, ℕ, ◌*◌, ◌/◌, ◌%◌, ◌≤◌, true, leb, List, get_or, Ok, sum, sym, ap, ◌∙◌, leb-true}
 use Rattle.split.specs.Split.{Shareable, whole_part, remainder, activity_asks, split_answer}
 use Rattle.foundation.proofs.Verdicts.{all_hold}
-
-pub sum_more : (xs : List ℕ) (i : ℕ) → i < length xs → sum (drop i xs) ≡ get_or xs i 0 + sum (drop (i + 1) xs)
-sum_more xs i lt = at_drop_more sum xs i 0 lt ∙ sum_by-cons (λ x. x) (get_or xs i 0) (drop (i + 1) xs)
-
-pub sum-end : (xs : List ℕ) (i : ℕ) → length xs ≤ i → sum (drop i xs) ≡ 0
-sum-end xs i h = at_drop_all sum xs i h
-
--- no activity is larger than all together
-pub activity-fits : (xs : List ℕ) (all i : ℕ) → all ≡ sum xs → all ≤ 8000000000 → i < length xs → get_or xs i 0 ≤ 8000000000
-activity-fits xs all i e fits lt = omega (arith, get_or-le-sum_by (λ x. x) xs i 0 lt)
 
 -- what a share's product gives at a place is its whole part, and its remainder
 pub whole-at : (amount : ℕ) (xs : List ℕ) (all i w : ℕ) → all ≡ sum xs → w ≡ amount * get_or xs i 0 / all → w ≡ whole_part amount xs i

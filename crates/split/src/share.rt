@@ -3,7 +3,7 @@ ghost use Rattle.std.specs.Prelude.{◌≡◌, ◌*◌, ◌/◌, ◌%◌, ◌<�
 ghost use Rattle.foundation.specs.Questions.{after};
 ghost use Rattle.split.specs.Amounts.{cents_of};
 ghost use Rattle.split.specs.Laws.{FairSplit};
-ghost use Rattle.split.specs.Split.{Shareable, comes_first, leftover, ahead, charges, laid_out, split_answer};
+ghost use Rattle.split.specs.Split.{comes_first, leftover, ahead, charges, laid_out, split_answer};
 
 use crate::amount::Amount;
 use crate::fault::Fault;
@@ -77,7 +77,7 @@ impl Sharing<'_> {
     {
         let (_, mine) = self.exact_share(self.activities[i]);
         let mut before: u64 = 0;
-        // Kept a loop: a rule of the project reads totals and remainders in loops over the slice, with its index.
+        // A loop over the slice with its index: a rule of the project (docs/DECISIONS.md).
         for (j, a) in self.activities.iter().enumerate() {
             let (_, theirs) = self.exact_share(*a);
             if comes_first(theirs, j, mine, i) {

@@ -1,4 +1,5 @@
-// What the Counter-Parties count. `parties` has the position of each participant's Counter-Party, in order of enrolment.
+// What the Counter-Parties count. `parties` has the position of each participant's Counter-Party, in order of
+// enrolment; it stays apart from the party that is asked for, since a struct of both would be made for one question.
 ghost use Rattle.std.specs.Prelude.{◌≡◌, length, pos, ◌≢◌};
 ghost use Rattle.foundation.specs.Questions.{after};
 ghost use Rattle.records.specs.declared.determinant.Group.TheVariants.{Load};
@@ -25,6 +26,7 @@ impl Table {
         ensures { Counts (group_value (meaning self.now).rows parties.now party group) 2048000000000 (group ≢ Load) (quarters_in result) }
     {
         let mut sum = Quarters::zero();
+        // A loop over the rows with their index: a rule of the project (docs/DECISIONS.md).
         for (k, row) in self.rows.iter().enumerate() {
             if is_under(parties, party, k) {
                 sum = sum.plus(row.value(group));

@@ -1,7 +1,7 @@
 // Making moments and comparing them.
 ghost use Rattle.std.specs.Prelude.{◌≡◌, if◌then◌else◌, Some, None};
 ghost use Rattle.std.specs.Option.{option_map};
-ghost use Rattle.calendar.specs.Moments.{When, when, is_moment, before};
+ghost use Rattle.calendar.specs.Moments.{when, is_moment, before};
 
 use super::Moment;
 use foundation::{LAST_DAY, LAST_MINUTE};

@@ -41,10 +41,10 @@ impl Charges {
         requires few { length parties.now ≤ 32 }
         ensures { out.new ≡ bills parties.now (charges_in self.now) }
     {
-        for (position, billed) in parties.iter().enumerate() {
+        for (position, bill) in out.iter_mut().enumerate() {
             // `as`: the charges' invariant says that it fits, and a `try_from` would bring a refusal that can't be.
-            out[position] = Charge {
-                billed: *billed,
+            *bill = Charge {
+                billed: parties[position],
                 position,
                 cents: self.cents[position] as u32,
             };

@@ -1,12 +1,9 @@
 // The bill.
 ghost use Rattle.std.specs.Prelude.{◌≡◌, ◌+◌, ◌≤◌, not, length, OnOk};
-ghost use Rattle.std.specs.Option.{unwrap_or};
-ghost use Rattle.foundation.specs.Limits.{most_counter_parties};
 ghost use Rattle.foundation.specs.Questions.{after, means};
 ghost use Rattle.activity.specs.Months.{closed_month};
 ghost use Rattle.activity.specs.Tables.{meaning as table_of};
 ghost use Rattle.split.specs.Laws.{FairSplit};
-ghost use Rattle.split.specs.Split.{laid_out};
 ghost use Rattle.receivables.specs.Books.{book_of};
 ghost use Rattle.receivables.specs.Issued.{after_issue};
 ghost use Rattle.ledger.specs.Charges.{charges_in};

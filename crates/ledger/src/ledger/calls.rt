@@ -1,6 +1,5 @@
 // Making a ledger, registering, enrolling, posting and paying.
 ghost use Rattle.std.specs.Prelude.{◌≡◌, IfOk};
-ghost use Rattle.std.specs.Option.{option_map};
 ghost use Rattle.foundation.specs.Questions.{after, means};
 ghost use Rattle.calendar.specs.Moments.{when};
 ghost use Rattle.activity.specs.Months.{collecting_month};

@@ -54,7 +54,8 @@ impl Ledger {
         Ok(place)
     }
 
-    // Funds a Counter-Party's instrument, and answers what it then holds.
+    // Funds a Counter-Party's instrument, and answers what it then holds. The means is a number from outside, and a
+    // type for it would ask more of callers.
     pub fn fund<I: Instrument + Copy>(
         &self,
         row: &mut [I],

@@ -16,9 +16,6 @@ loop-call-init g c =
     let first = subst (λ m. WholeHistory c.args.account [] [] row (record { ledger = m; row = row })) (sym c.in_ok-ledger.ensures) none in
     (new.len, new.capacity, subst (λ rs. WholeHistory c.args.account [] (map reply_of rs) row (record { ledger = model_of c.in_ok-ledger.ledger; row = row })) (sym new.items) first)
 
-pub push_reserved-requires : goal.push_reserved-requires
-push_reserved-requires g c = omega (arith, c.loop-call.invariant.0, c.loop-call.invariant.1, c.loop-call-test.true)
-
 pub loop-call-preserved : goal.loop-call-preserved
 loop-call-preserved g c =
     let i = c.loop-call.invariant in

@@ -1,6 +1,5 @@
-use Rattle.std.proofs.Common.{ap, ◌∙◌, length, Ok, arith}
+use Rattle.std.proofs.Common.{ap, ◌∙◌, length, arith}
 use Rattle.split.specs.Split.{charges}
-use Rattle.ledger.specs.Charges.{laid}
 use Rattle.ledger.proofs.Bills.{laid-long, laid-small}
 use Rattle.ledger.proofs.charges.Charges.shared.Goals as goal
 
@@ -10,9 +9,3 @@ invariant_of-result c =
     let cs = charges a.cents c.args.activities.now in
     let e = c.in_ok-split.ensures in
     record { laid = ap length e.charged ∙ laid-long cs; small = rw e.charged (laid-small 4294967295 cs (omega (arith, a.fits, e.fair.adds_up))) }
-
-pub returns : goal.returns
-returns c =
-    let cs = charges c.args.amount.cents c.args.activities.now in
-    let e = c.in_ok-split.ensures in
-    record { answer = ap Ok e.charged ∙ ap (laid cs) e.answer; fair = e.fair }

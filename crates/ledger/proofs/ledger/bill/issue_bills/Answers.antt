@@ -1,11 +1,8 @@
-use Rattle.std.proofs.Common.{ap, arith, length-take}
+use Rattle.std.proofs.Common.{ap, arith}
 use Rattle.std.proofs.lemmas.Result.{err_from_is_err_and}
 use Rattle.receivables.specs.Books.{book_of}
 use Rattle.ledger.proofs.Bills.{no-places, placed, issued-book}
 use Rattle.ledger.proofs.ledger.bill.issue_bills.Goals as goal
-
-pub write_bills-requires : goal.write_bills-requires
-write_bills-requires c = record { long = simp length-take (omega (arith, c.requires.few)); few = c.requires.few }
 
 pub returns-in_err-issue : goal.returns-in_err-issue
 returns-in_err-issue c =

@@ -1,26 +1,10 @@
-use Rattle.std.proofs.Common.{◌≡◌, ℕ, ◌+◌, ◌≤◌, map, get_or, set, Ok, sym, refl, ap, ◌∙◌, arith}
+use Rattle.std.proofs.Common.{◌≡◌, ℕ, ◌+◌, ◌≤◌, map, get_or, set, Ok, sym, ap, ◌∙◌, arith}
 use Rattle.std.proofs.lemmas.List.{get_or-map, map-set, get_or-set_other}
-use Rattle.std.proofs.lemmas.Result.{err_from_is_err_and}
 use Rattle.security.specs.declared.means.Means.{Means}
 use Rattle.receivables.proofs.Rows.{set-related}
 use Rattle.ledger.specs.Secure.{security_of, no_security, place_funded}
-use Rattle.ledger.proofs.Secured.{refused-place, funded-place}
+use Rattle.ledger.proofs.Secured.{funded-place}
 use Rattle.ledger.proofs.ledger.secure.fund_at.Goals as goal
-
-pub returns-in_err-fund : goal.returns-in_err-fund
-returns-in_err-fund g c =
-    let row = c.args.row.now in
-    let x = c.index-row-place.result in
-    let means = security_of g.I.Instrument.held g.I.Instrument.room in
-    let read : get_or (map means row) c.args.place no_security ≡ means x = get_or-map means row c.args.place _ no_security c.requires.within ∙ ap means (sym c.index-row-place.is) in
-    let p = err_from_is_err_and c.from_residual.result c.from_residual.ensures.1 in
-    rw (p.1, p.2) (record {
-      answer = refused-place (means x) c.args.means c.args.amount _ c.in_err-fund.ensures.answer ∙ ap (λ y. place_funded y c.args.means c.args.amount) (sym read);
-      helds = refl;
-      others = λ j d o. refl;
-      rooms = λ j d m. omega arith;
-      refused = λ h. refl;
-    })
 
 pub returns : goal.returns
 returns g c =

@@ -1,7 +1,6 @@
 use Rattle.std.proofs.Common.{◌+◌, vec_items, refl, ap, ◌∙◌, arith}
 use Rattle.receivables.specs.Issued.{issued}
 use Rattle.receivables.specs.Listed.{listed}
-use Rattle.receivables.proofs.Issues.{issued-one}
 use Rattle.receivables.proofs.Lists.{Standing, lists, unlists, listed-push}
 use Rattle.receivables.proofs.book.Receivables.add.Goals as goal
 
@@ -13,6 +12,3 @@ invariant_of-self-clause-sound g c =
     let stands : Standing v = record { more = c.requires.some; small = omega arith; here = refl } in
     let items = rw c.from.ensures at e.items in
     ap (listed 1 (book.next + 1)) items ∙ unlists 1 (book.next + 1) _ (listed-push 1 book.next (vec_items book.list) v refl stands (lists 1 book.next (vec_items book.list) book.sound))
-
-pub returns : goal.returns
-returns g c = issued-one _ c.args.due_day c.args.charge _ c.requires.some (rw c.from.ensures at c.push_reserved.ensures.items)

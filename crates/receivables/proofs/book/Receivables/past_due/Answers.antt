@@ -3,7 +3,6 @@ use Rattle.std.specs.Vec.{with_items}
 use Rattle.std.proofs.lemmas.List.{with_items_is}
 use Rattle.calendar.specs.Moments.{when}
 use Rattle.receivables.specs.declared.invoice.Invoice.{Invoice}
-use Rattle.receivables.specs.Books.{book_of, with_invoices}
 use Rattle.receivables.specs.Invoices.{balances, is_past_due, unsettled}
 use Rattle.receivables.specs.Listed.{listed}
 use Rattle.receivables.specs.Run.{drawn_all, helds, outcome}
@@ -41,11 +40,6 @@ invariant_of-self-clause-sound g c =
     let l = lists 1 r.next vs r.sound in
     let left = swept past hs r.list _ _ _ c.as_mut_slice.ensures.value c.draw_all-outcome.ensures.list c.sweep.ensures.items in
     ap (listed 1 r.next) left ∙ unlists 1 r.next _ (kept-listed 1 r.next vs (drawn_all past vs hs) (run-kept past 1 r.next vs hs l) l)
-
-pub returns-clause-book : goal.returns-clause-book
-returns-clause-book g c =
-    let hs = map g.I.Instrument.held c.args.row.now in
-    ap (with_invoices (book_of c.args.self.now)) (swept (is_past_due (when c.args.at)) hs c.args.self.now.list _ _ _ c.as_mut_slice.ensures.value c.draw_all-outcome.ensures.list c.sweep.ensures.items)
 
 pub returns-clause-law : goal.returns-clause-law
 returns-clause-law g c =

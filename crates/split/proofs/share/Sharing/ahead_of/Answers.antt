@@ -2,19 +2,9 @@ use Rattle.std.proofs.Common.{◌≡◌, length, sym, ap, ◌∙◌, arith}
 use Rattle.foundation.specs.Counting.{count, one_if}
 use Rattle.foundation.proofs.Totals.{count-more, count-few}
 use Rattle.split.specs.Split.{ahead, comes_first, remainder}
-use Rattle.split.proofs.Summed.{activity-fits, rest_at}
+use Rattle.split.proofs.Summed.{rest_at}
 use Rattle.split.proofs.share.Sharing.ahead_of.Goals as goal
 use Rattle.split.proofs.share.Sharing.ahead_of.Goals.{then-comes_first, else-comes_first}
-
-pub exact_share-mine-requires : goal.exact_share-mine-requires
-exact_share-mine-requires c =
-    let s = c.args.self.now in
-    activity-fits s.activities.now s.all c.args.i s.summed s.few c.requires
-
-pub exact_share-theirs-requires : goal.exact_share-theirs-requires
-exact_share-theirs-requires c =
-    let s = c.args.self.now in
-    activity-fits s.activities.now s.all c.loop-j.j s.summed s.few (omega arith)
 
 pub overflow_add-before : goal.overflow_add-before
 overflow_add-before c =

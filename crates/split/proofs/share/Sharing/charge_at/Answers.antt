@@ -3,27 +3,14 @@ use Rattle.std.proofs.lemmas.List.{get_or_past}
 use Rattle.std.proofs.lemmas.Bool.{lt-ltb, le-ltb}
 use Rattle.foundation.specs.Counting.{one_if}
 use Rattle.split.specs.Split.{ahead, leftover, charges}
-use Rattle.split.proofs.Shares.{front-more}
 use Rattle.split.proofs.Fairness.{charges-at, charges-long, charge-is}
-use Rattle.split.proofs.Summed.{activity-fits, whole-at}
+use Rattle.split.proofs.Summed.{whole-at}
 use Rattle.split.proofs.share.Sharing.charge_at.Goals as goal
 
 pub returns-then-i-self : goal.returns-then-i-self
 returns-then-i-self c =
     let s = c.args.self.now in
     sym (get_or_past (charges s.amount s.activities.now) c.args.i 0 (omega (arith, charges-long s.amount s.activities.now)))
-
-pub exact_share-whole-requires : goal.exact_share-whole-requires
-exact_share-whole-requires c =
-    let s = c.args.self.now in
-    activity-fits s.activities.now s.all c.args.i s.summed s.few (omega arith)
-
-pub overflow_add-result : goal.overflow_add-result
-overflow_add-result c =
-    let s = c.args.self.now in
-    let xs = s.activities.now in
-    let here = whole-at s.amount xs s.all c.args.i _ s.summed c.exact_share-whole.ensures.whole in
-    omega (arith, here, s.fits, front-more s.amount xs (omega (arith, s.active, s.summed)) c.args.i (omega arith))
 
 pub returns-then-ahead_of-left : goal.returns-then-ahead_of-left
 returns-then-ahead_of-left c =

@@ -3,13 +3,8 @@ use Rattle.foundation.specs.Counting.{total}
 use Rattle.foundation.proofs.Totals.{total-more}
 use Rattle.split.specs.Split.{leftover, whole_part}
 use Rattle.split.proofs.Shares.{front-more}
-use Rattle.split.proofs.Summed.{activity-fits, whole-at}
+use Rattle.split.proofs.Summed.{whole-at}
 use Rattle.split.proofs.share.Sharing.leftover.Goals as goal
-
-pub exact_share-whole-requires : goal.exact_share-whole-requires
-exact_share-whole-requires c =
-    let s = c.args.self.now in
-    activity-fits s.activities.now s.all c.loop-a.a-index s.summed s.few (omega arith)
 
 pub overflow_sub-left : goal.overflow_sub-left
 overflow_sub-left c =
