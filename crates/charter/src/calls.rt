@@ -2,7 +2,7 @@
 use crate::market::MarketMonth;
 use crate::plan::{Planned, Step};
 use anyhow::Context;
-use calendar::Calendar;
+use calendar::{Calendar, Stamp};
 use history::{Call, Carried, carry_out};
 use security::{Cash, Letter, Pair};
 use std::alloc::Global;
@@ -29,6 +29,17 @@ impl<'a, C: Calendar> Lent<'a, C> {
         }
     }
 
+    fn bill(&self, month: u16, amount: u64, stamp: Stamp) -> anyhow::Result<Call<'a, C>> {
+        let MarketMonth { table, month } = self.months.get(usize::from(month)).context("no month")?;
+        Ok(Call::Bill {
+            table,
+            month,
+            amount,
+            stamp,
+            calendar: self.calendar,
+        })
+    }
+
     fn call(&self, step: Step) -> anyhow::Result<Call<'a, C>> {
         Ok(match step {
             Step::Register { counter_party } => Call::Register { counter_party },
@@ -43,19 +54,7 @@ impl<'a, C: Calendar> Lent<'a, C> {
                 month,
                 cents,
                 stamp,
-            } => {
-                let MarketMonth { table, month } = self
-                    .months
-                    .get(usize::from(month))
-                    .context("no month")?;
-                Call::Bill {
-                    table,
-                    month,
-                    amount: cents,
-                    stamp,
-                    calendar: self.calendar,
-                }
-            }
+            } => self.bill(month, cents, stamp)?,
             Step::Pay {
                 invoice,
                 cents,

@@ -8,7 +8,11 @@ mod collections;
 #[cfg(test)]
 mod habits;
 #[cfg(test)]
+mod ledgers;
+#[cfg(test)]
 mod months;
+#[cfg(test)]
+mod pools;
 #[cfg(test)]
 mod readings;
 #[cfg(test)]
@@ -17,6 +21,8 @@ mod refusals;
 mod securities;
 #[cfg(test)]
 mod texts;
+#[cfg(test)]
+mod through;
 #[cfg(test)]
 mod times;
 

@@ -26,7 +26,7 @@ pub enum Call<'a, C> {
     },
     Fund {
         counter_party: u16,
-        // A number from outside: any other than a means' is refused.
+        // A number from outside, taken as it comes: a rule of the project (docs/DECISIONS.md).
         means: u8,
         amount: u64,
     },

@@ -15,6 +15,7 @@ use security::Instrument;
 use std::alloc::{AllocError, Global};
 
 impl<C: Calendar> Call<'_, C> {
+    // A match: a call is data, which the law speaks of, and not a closure or a `dyn`.
     fn step<I: Instrument + Copy>(
         &self,
         ledger: &mut Ledger,
@@ -23,7 +24,6 @@ impl<C: Calendar> Call<'_, C> {
         ensures step { Step (state_of I.held I.room ledger.old row.old) (request_of C.meaning self.now) (reply_of result) (state_of I.held I.room ledger.new row.new) }
         ensures places { PlacesKept (state_of I.held I.room ledger.old row.old) (request_of C.meaning self.now) (reply_of result) (state_of I.held I.room ledger.new row.new) }
     {
-        // A call is data, which the law speaks of, and not a closure or a `dyn`.
         match self {
             Call::Register { counter_party } => {
                 ledger.register(*counter_party).map(|_| Answer::Done)

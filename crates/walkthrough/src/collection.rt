@@ -1,6 +1,7 @@
 // The invoices of a month, a part payment, and the past-due run at 17:00 and a minute later.
 use anyhow::Context;
-use calendar::{Moment, Weekly, due_day};
+use calendar::{Moment, Stamp, Weekly, due_day};
+use foundation::DUE_MINUTE;
 use receivables::{Charge, Invoice, Receivables};
 use remarks::{Digits, invoice_number};
 use security::{Cash, Instrument, Letter, Means, Pair};
@@ -106,13 +107,8 @@ fn fund(
     }
 }
 
-fn run(
-    rt: &impl Print,
-    book: &mut Book,
-    row: &mut [Security; 2],
-    day: u16,
-    minute: u16,
-) -> io::Result<()> {
+fn run(rt: &impl Print, book: &mut Book, row: &mut [Security; 2], stamp: Stamp) -> io::Result<()> {
+    let Stamp { day, minute } = stamp;
     let Some(at) = Moment::new(day, minute) else {
         return println!(rt; "Day {day} has no minute {minute}.");
     };
@@ -140,7 +136,8 @@ pub(crate) fn carry_out(rt: &HostRuntime, charges: [u64; 2]) -> anyhow::Result<(
     fund(rt, &mut row, 0, Means::Cash, 300_000)?;
     fund(rt, &mut row, 0, Means::Letter, 200_000)?;
     fund(rt, &mut row, 1, Means::Cash, 250_000)?;
-    run(rt, &mut book, &mut row, day, 1_020)?;
-    run(rt, &mut book, &mut row, day, 1_021)?;
+    for minute in [DUE_MINUTE, DUE_MINUTE + 1] {
+        run(rt, &mut book, &mut row, Stamp { day, minute })?;
+    }
     Ok(())
 }

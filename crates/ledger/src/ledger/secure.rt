@@ -54,8 +54,8 @@ impl Ledger {
         Ok(place)
     }
 
-    // Funds a Counter-Party's instrument, and answers what it then holds. The means is a number from outside, and a
-    // type for it would ask more of callers.
+    // Funds a Counter-Party's instrument, and answers what it then holds. The means is a number from outside,
+    // taken as it comes: a rule of the project (docs/DECISIONS.md).
     pub fn fund<I: Instrument + Copy>(
         &self,
         row: &mut [I],

@@ -2,7 +2,6 @@ use Rattle.std.proofs.Common.{rules, ◌≡◌, ℕ, ◌-◌, ◌≤◌, drop, S
 use borrow.Author.Tests.{tests}
 use Rattle.std.specs.List.{find, filter, range_with_len}
 use Rattle.std.specs.Option.{option_map}
-use Rattle.calendar.specs.Due.{due_day_of}
 use Rattle.std.proofs.lemmas.Grind.{common_steps}
 use Rattle.std.proofs.lemmas.Iterator.{YieldsList-from_range}
 use Rattle.std.proofs.lemmas.Iterator.Adapters.{YieldsList-from_skip}
@@ -15,9 +14,9 @@ same : (o : Option ℕ) → option_map (λ x. x) o ≡ o
 same None = refl
 same (Some x) = refl
 
--- the fourth day passed over, the first Business Day of the chain
-chain : (g : _) (c : goal.After-find g) → c.find.result ≡ due_day_of (g.C.Calendar.meaning c.args.calendar.now) c.args.invoice_day
-chain g c =
+-- four Bank Business Days passed over, and the first Business Day of those that follow
+pub returns : goal.returns
+returns g c =
     let m = g.C.Calendar.meaning c.args.calendar.now in
     let first = c.in_ok-first.first in
     let days = c.min-end.result - first in
@@ -28,13 +27,8 @@ chain g c =
     (YieldsList-from_filter {s = c.skip.result.iter} _ m.bank range (ap (λ f. f.p) c.skip.ensures.source ∙ c.filter.ensures.closure) (λ x b q k. search (rules, tests)))
     c.skip.ensures.count)
     (λ x b q k. search (rules, tests)) in
-    sym (same c.find.result) ∙ found ∙ chain-is m c.args.invoice_day first days (omega arith) (omega arith)
-
-pub returns-clause-rule : goal.returns-clause-rule
-returns-clause-rule g c = chain g c
-
-pub returns-clause-law : goal.returns-clause-law
-returns-clause-law g c = law-of (g.C.Calendar.meaning c.args.calendar.now) c.args.invoice_day _ (chain g c)
+    let rule = sym (same c.find.result) ∙ found ∙ chain-is m c.args.invoice_day first days (omega arith) (omega arith) in
+    record { rule = rule; law = law-of m c.args.invoice_day _ rule }
 
 pub returns-in_err-first-clause-rule : goal.returns-in_err-first-clause-rule
 returns-in_err-first-clause-rule g c =
