@@ -1,13 +1,10 @@
 -- The due day is what the rule says. Assumes nothing.
-use Rattle.std.proofs.Common.{◌≡◌, ℕ, zero, suc, ◌+◌, ◌-◌, ◌<◌, ◌≤◌, Bool, true, false, ◌&&◌, leb, [], drop, Some, None, Option, sym, refl, ap, ◌∙◌, subst, inl, inr, add-one, arith, le-leb, leb-true}
+use Rattle.std.proofs.Common.{◌≡◌, ℕ, suc, ◌+◌, ◌-◌, ◌<◌, ◌≤◌, Bool, true, false, ◌&&◌, leb, Some, None, Option, sym, refl, ap, ◌∙◌, subst, inl, inr, add-one, arith, le-leb, leb-true}
 use borrow.Author.Tests.{lt-leb}
-use Rattle.std.specs.List.{find, filter, range_with_len}
 use Rattle.std.proofs.lemmas.Bool.{cases_lt}
-use Rattle.std.proofs.lemmas.List.{drop_all}
 use Rattle.calendar.specs.Meaning.{CalendarMeaning}
 use Rattle.foundation.specs.Counting.{one_if}
-use Rattle.foundation.specs.Limits.{last_day}
-use Rattle.foundation.proofs.Totals.{total_mono}
+use Rattle.foundation.proofs.Totals.{total_mono, count-few}
 use Rattle.calendar.specs.Due.{first_after, is_both, bank_days, may_be_due, span, due_day_of, Due, DueAnswer}
 use Rattle.calendar.proofs.Firsts.{days_after, days-reach, Firsts, first-is, first_found, turn_on, turn-hit}
 
@@ -103,70 +100,28 @@ module _ (m : CalendarMeaning) (invoice : ℕ) where
         ∙ ap (λ n. leb 5 n && is_both m (invoice + suc k)) days-now
         ∙ ap (λ d. leb 5 (seen + one_if (m.bank (invoice + k + 1))) && is_both m d) at
 
-    hit : k < span invoice → m.bank (invoice + k + 1) ≡ true → 5 ≤ seen + 1 → m.business (invoice + k + 1) ≡ true → Some (invoice + k + 1) ≡ due_day_of m invoice
+    pub hit : k < span invoice → m.bank (invoice + k + 1) ≡ true → 5 ≤ seen + 1 → m.business (invoice + k + 1) ≡ true → Some (invoice + k + 1) ≡ due_day_of m invoice
     unfolding due_day_of
     hit lt bank five business =
         let on : may_be_due m invoice (invoice + suc k) ≡ true = test ∙ and_both _ _ (le-leb 5 (seen + one_if (m.bank (invoice + k + 1))) (omega (arith, ap one_if bank))) (and_both _ _ bank business) in
         sym (turn-hit (may_be_due m invoice) invoice k (span invoice) lt sofar.1 on ∙ ap Some at)
 
-    no-bank : m.bank (invoice + k + 1) ≡ false → SoFar (k + 1) seen
+    pub no-bank : m.bank (invoice + k + 1) ≡ false → SoFar (k + 1) seen
     no-bank off = (omega (arith, days-now, ap one_if off), turn_on (may_be_due m invoice) invoice k sofar.1 (test ∙ and_no _ _ (and-off _ _ off)))
 
-    early : m.bank (invoice + k + 1) ≡ true → seen + 1 < 5 → SoFar (k + 1) (seen + 1)
+    pub early : m.bank (invoice + k + 1) ≡ true → seen + 1 < 5 → SoFar (k + 1) (seen + 1)
     early bank few =
         (omega (arith, days-now, ap one_if bank), turn_on (may_be_due m invoice) invoice k sofar.1 (test ∙ and-off _ _ (lt-leb 5 (seen + one_if (m.bank (invoice + k + 1))) (omega (arith, ap one_if bank)))))
 
-    no-business : m.bank (invoice + k + 1) ≡ true → m.business (invoice + k + 1) ≡ false → SoFar (k + 1) (seen + 1)
+    pub no-business : m.bank (invoice + k + 1) ≡ true → m.business (invoice + k + 1) ≡ false → SoFar (k + 1) (seen + 1)
     no-business bank off = (omega (arith, days-now, ap one_if bank), turn_on (may_be_due m invoice) invoice k sofar.1 (test ∙ and_no (leb 5 (seen + one_if (m.bank (invoice + k + 1)))) (is_both m (invoice + k + 1)) (and_no (m.bank (invoice + k + 1)) (m.business (invoice + k + 1)) off)))
 
-    none-due : k ≡ span invoice → None ≡ due_day_of m invoice
+    pub at_most : seen ≤ k
+    at_most = omega (arith, sofar.0, count-few (λ k. m.bank (invoice + suc k)) k)
+
+    pub none-due : k ≡ span invoice → None ≡ due_day_of m invoice
     unfolding due_day_of
     none-due e = sym (ap (first_after (may_be_due m invoice) invoice) (sym e) ∙ sofar.1)
-
-  -- the day that is due among n days from a first on, where so many Bank Business Days came before them
-  abbrev ahead : ℕ → ℕ → ℕ → Option ℕ
-  ahead first n seen = find m.business (drop (4 - seen) (filter m.bank (range_with_len first n)))
-
-  none-ahead : (c : ℕ) → find m.business (drop c []) ≡ None
-  none-ahead c = rw (drop_all {X = ℕ} c [] (omega arith)) refl
-
-  module _ (n k seen : ℕ) (sofar : SoFar k seen) (lt : k < span invoice) (rest : (seen : ℕ) → SoFar (k + 1) seen → ahead (invoice + (k + 1) + 1) n seen ≡ due_day_of m invoice) where
-    next : invoice + k + 1 + 1 ≡ invoice + (k + 1) + 1
-    next = omega arith
-
-    fifth-come : 4 ≤ seen → m.bank (invoice + k + 1) ≡ true → (business : Bool) → m.business (invoice + k + 1) ≡ business → ahead (invoice + k + 1) (suc n) seen ≡ due_day_of m invoice
-    fifth-come many on true both =
-        let all : 4 - seen ≡ 0 = omega arith in
-        rw (on, all, both) (hit k seen sofar lt on (omega arith) both)
-    fifth-come many on false both =
-        let all : 4 - seen ≡ 0 = omega arith in
-        let still : 4 - (seen + 1) ≡ 0 = omega arith in
-        rw (on, all, both, next) (rw still at (rest (seen + 1) (no-business k seen sofar on both)))
-
-    bank-day : m.bank (invoice + k + 1) ≡ true → ahead (invoice + k + 1) (suc n) seen ≡ due_day_of m invoice
-    bank-day on =
-        elim (cases_lt seen 4) [
-          | inl few ↦ (let more : 4 - seen ≡ suc (4 - (seen + 1)) = omega arith in rw (on, more, next) (rest (seen + 1) (early k seen sofar on (omega arith))))
-          | inr many ↦ fifth-come many on (m.business (invoice + k + 1)) refl
-        ]
-
-    day : (bank : Bool) → m.bank (invoice + k + 1) ≡ bank → ahead (invoice + k + 1) (suc n) seen ≡ due_day_of m invoice
-    day false off = rw (off, next) (rest seen (no-bank k seen sofar off))
-    day true on = bank-day on
-
-  ahead-is : (n k seen : ℕ) → SoFar k seen → k + n ≡ span invoice → ahead (invoice + k + 1) n seen ≡ due_day_of m invoice
-  ahead-is zero k seen sofar e = none-ahead (4 - seen) ∙ none-due k seen sofar (omega arith)
-  ahead-is (suc n) k seen sofar e = day n k seen sofar (omega arith) (λ s l. ahead-is n (k + 1) s l (omega arith)) (m.bank (invoice + k + 1)) refl
-
-  -- the days first on are passed over until the fifth Bank Business Day, and from it on until one is both
-  pub chain-is : (first days : ℕ) → first ≡ invoice + 1 → days ≡ span invoice → find m.business (drop 4 (filter m.bank (range_with_len first days))) ≡ due_day_of m invoice
-  chain-is first days e l =
-      let at : first ≡ invoice + 0 + 1 = omega arith in
-      rw (at, l) (ahead-is (span invoice) 0 0 (omega arith, refl) (omega arith))
-
-  -- the invoice day is the last that there can be, and no day comes after it
-  pub none-after : last_day ≤ invoice → None ≡ due_day_of m invoice
-  none-after late = none-due 0 0 (omega arith, refl) (omega arith)
 
   pub law-of : (r : Option ℕ) → r ≡ due_day_of m invoice → DueAnswer m invoice r
   law-of r e = subst (DueAnswer m invoice) (sym e) (due-law m invoice)

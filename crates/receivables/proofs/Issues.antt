@@ -19,7 +19,7 @@ module _ (cs : List Charge) (i : ℕ) (c : Charge) (here : c ≡ get_or cs i c) 
   pub positive-yes : 0 < c.cents → positive (drop i cs) ≡ 1 + positive (drop (i + 1) cs)
   positive-yes h = at_drop_more positive cs i c lt ∙ ap (λ x. positive (x ∷ drop (i + 1) cs)) (sym here) ∙ cond-true _ _ _ (lt-ltb 0 c.cents h)
 
-  positive-no : c.cents ≤ 0 → positive (drop i cs) ≡ positive (drop (i + 1) cs)
+  pub positive-no : c.cents ≤ 0 → positive (drop i cs) ≡ positive (drop (i + 1) cs)
   positive-no h = at_drop_more positive cs i c lt ∙ ap (λ x. positive (x ∷ drop (i + 1) cs)) (sym here) ∙ cond-false _ _ _ (le-ltb 0 c.cents h)
 
   issued-yes : (n due : ℕ) → 0 < c.cents → issued_from n due (drop i cs) ≡ issued n due c ∷ issued_from (n + 1) due (drop (i + 1) cs)

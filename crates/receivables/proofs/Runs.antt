@@ -81,7 +81,7 @@ module _ {past : Invoice → Bool} {vs : List Invoice} {hs : List ℕ} {i : ℕ}
       (subst (AllByRecursion P) n (All-drop P i vs a)).0
 
 -- no event raises a balance
-told-in-less : (t : State) (v : Invoice) (e : Event) → (told_in t v e).balance ≤ v.balance
+pub told-in-less : (t : State) (v : Invoice) (e : Event) → (told_in t v e).balance ≤ v.balance
 told-in-less Open v (Payment n) = omega arith
 told-in-less Open v (Draw n) = omega arith
 told-in-less Open v PastDue = omega arith
@@ -90,7 +90,7 @@ told-in-less Short v (Draw n) = omega arith
 told-in-less Short v PastDue = omega arith
 told-in-less Settled v e = omega arith
 
-drawn-on-less : (hs : List ℕ) (v : Invoice) → (drawn_on hs v).balance ≤ v.balance
+pub drawn-on-less : (hs : List ℕ) (v : Invoice) → (drawn_on hs v).balance ≤ v.balance
 drawn-on-less hs v =
     let w : Invoice = told v (Draw (paid hs v)) in
     omega (arith, told-in-less v.state v (Draw (paid hs v)), told-in-less w.state w PastDue)

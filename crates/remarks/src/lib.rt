@@ -4,7 +4,7 @@
 ghost use Rattle.std.specs.Prelude.{◌≡◌, ◌≤◌, length};
 ghost use Rattle.foundation.specs.Counting.{first};
 ghost use Rattle.remarks.specs.Digits.{most_of};
-ghost use Rattle.remarks.specs.Remarks.{is_marked, read_number, named, NamedAnswer};
+ghost use Rattle.remarks.specs.Remarks.{is_mark, is_marked, read_number, named, NamedAnswer};
 
 mod digits;
 
@@ -31,12 +31,12 @@ fn read_number(text: &[u8], digits: Digits) -> Option<u32>
     Some(number)
 }
 
-// Whether INV stands at a place, directly before a digit.
-fn is_marked(remark: &[u8], place: usize) -> bool
-    ensures { result ≡ is_marked remark.now place }
+// Whether the text begins with INV and then a digit.
+fn is_mark(text: &[u8]) -> bool
+    ensures { result ≡ is_mark text.now }
 {
-    match remark.get(place..) {
-        Some([b'I', b'N', b'V', digit, ..]) => digit.is_ascii_digit(),
+    match text {
+        [b'I', b'N', b'V', digit, ..] => digit.is_ascii_digit(),
         _ => false,
     }
 }
@@ -45,7 +45,7 @@ fn is_marked(remark: &[u8], place: usize) -> bool
 fn marked_place(remark: &[u8]) -> Option<usize>
     ensures { result ≡ first (is_marked remark.now) (length remark.now) }
 {
-    (0..remark.len()).find(|place| is_marked(remark, *place))
+    (0..remark.len()).find(|place| is_mark(&remark[*place..]))
 }
 
 // The number at the first place where INV stands directly before a digit.

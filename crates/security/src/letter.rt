@@ -1,5 +1,5 @@
 // A letter of credit: a face, and what was drawn of it.
-ghost use Rattle.std.specs.Prelude.{◌≡◌, ◌+◌, ◌-◌, ◌≤◌, min};
+ghost use Rattle.std.specs.Prelude.{◌≡◌, ◌+◌, ◌-◌, ◌<◌, ◌≤◌, min};
 ghost use Rattle.security.specs.Funding.{fund_answer, funded};
 ghost use Rattle.security.specs.Instruments.{letter_room};
 
@@ -41,10 +41,12 @@ impl Instrument for Letter {
         }
     }
 
-    // The face stays, and so does the room. A clause of the trait that stands here again, and at `fund`, doesn't
-    // follow from the others.
+    // The face stays, and so does the room. Clauses here, and at `fund`, stand in place of the trait's, so these stand
+    // here too.
     fn draw(&mut self, n: u64) -> u64
         ensures paid { result ≡ min n (self.old.face - self.old.drawn) }
+        ensures left { self.new.face - self.new.drawn ≡ self.old.face - self.old.drawn - n }
+        ensures rooms { (m : Means) → letter_room self.old.face m ≤ letter_room self.new.face m }
         ensures face { self.new.face ≡ self.old.face }
         ensures drawn { self.new.drawn ≡ self.old.drawn + result }
     {
@@ -56,6 +58,9 @@ impl Instrument for Letter {
     // A funding raises the face.
     fn fund(&mut self, means: Means, n: u64) -> Result<(), FundingRefused>
         ensures answer { result ≡ fund_answer means n (letter_room self.old.face means) }
+        ensures left { self.new.face - self.new.drawn ≡ funded (self.old.face - self.old.drawn) n (letter_room self.old.face means) }
+        ensures rooms { (m : Means) → letter_room self.new.face m ≤ letter_room self.old.face m }
+        ensures refused { letter_room self.old.face means < n → self.new ≡ self.old }
         ensures face { self.new.face ≡ funded self.old.face n (letter_room self.old.face means) }
         ensures drawn { self.new.drawn ≡ self.old.drawn }
     {

@@ -1,5 +1,5 @@
 // Two instruments together.
-ghost use Rattle.std.specs.Prelude.{◌≡◌, ◌+◌, ◌<◌, ◌≤◌, min, max};
+ghost use Rattle.std.specs.Prelude.{◌≡◌, ◌+◌, ◌-◌, ◌<◌, ◌≤◌, min, max};
 ghost use Rattle.security.specs.Funding.{fund_answer, funded};
 ghost use Rattle.security.specs.Instruments.{left_in_first, left_in_second, funded_second};
 ghost use Rattle.security.specs.declared.means.Means.{Means};
@@ -28,10 +28,11 @@ impl<F: Instrument, S: Instrument> Instrument for Pair<F, S> {
         self.first.room(means).max(self.second.room(means))
     }
 
-    // From the first, then the rest from the second. A clause of the trait that stands here again, and at `fund`,
-    // doesn't follow from the others.
+    // From the first, then the rest from the second. Clauses here, and at `fund`, stand in place of the trait's, so
+    // these stand here too.
     fn draw(&mut self, n: u64) -> u64
         ensures paid { result ≡ min n (F.Instrument.held self.old.first + S.Instrument.held self.old.second) }
+        ensures left { F.Instrument.held self.new.first + S.Instrument.held self.new.second ≡ F.Instrument.held self.old.first + S.Instrument.held self.old.second - n }
         ensures rooms { (m : Means) → max (F.Instrument.room self.old.first m) (S.Instrument.room self.old.second m) ≤ max (F.Instrument.room self.new.first m) (S.Instrument.room self.new.second m) }
         ensures first { F.Instrument.held self.new.first ≡ left_in_first (F.Instrument.held self.old.first) n }
         ensures second { S.Instrument.held self.new.second ≡ left_in_second (F.Instrument.held self.old.first) (S.Instrument.held self.old.second) n }
@@ -43,16 +44,17 @@ impl<F: Instrument, S: Instrument> Instrument for Pair<F, S> {
     // To the first that has the room.
     fn fund(&mut self, means: Means, n: u64) -> Result<(), FundingRefused>
         ensures answer { result ≡ fund_answer means n (max (F.Instrument.room self.old.first means) (S.Instrument.room self.old.second means)) }
+        ensures left { F.Instrument.held self.new.first + S.Instrument.held self.new.second ≡ funded (F.Instrument.held self.old.first + S.Instrument.held self.old.second) n (max (F.Instrument.room self.old.first means) (S.Instrument.room self.old.second means)) }
         ensures rooms { (m : Means) → max (F.Instrument.room self.new.first m) (S.Instrument.room self.new.second m) ≤ max (F.Instrument.room self.old.first m) (S.Instrument.room self.old.second m) }
         ensures refused { max (F.Instrument.room self.old.first means) (S.Instrument.room self.old.second means) < n → self.new ≡ self.old }
         ensures first { F.Instrument.held self.new.first ≡ funded (F.Instrument.held self.old.first) n (F.Instrument.room self.old.first means) }
         ensures second { S.Instrument.held self.new.second ≡ funded_second (S.Instrument.held self.old.second) n (F.Instrument.room self.old.first means) (S.Instrument.room self.old.second means) }
     {
-        FundingRefused::unless_fits(means, n, self.room(means))?;
-        if n <= self.first.room(means) {
-            self.first.fund(means, n)
-        } else {
-            self.second.fund(means, n)
+        let room = self.first.room(means);
+        if n <= room {
+            return self.first.fund(means, n);
         }
+        FundingRefused::unless_fits(means, n, room.max(self.second.room(means)))?;
+        self.second.fund(means, n)
     }
 }

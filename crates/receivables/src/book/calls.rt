@@ -30,10 +30,13 @@ fn owed_in(list: &[Invoice], counter_party: u16) -> u64
     requires { balances list.now < 2 ^ 64 }
     ensures { result ≡ owed_by list.now counter_party }
 {
-    list.iter()
-        .filter(|invoice| invoice.billed == counter_party)
-        .map(|invoice| invoice.balance)
-        .sum()
+    list.iter().fold(0, |owed, invoice| {
+        if invoice.billed == counter_party {
+            owed + invoice.balance
+        } else {
+            owed
+        }
+    })
 }
 
 impl<const PLACES: usize> Receivables<PLACES> {
