@@ -169,9 +169,12 @@ impl MarketMonth {
     }
 }
 
-// The months by their numbers.
+// The months by their numbers. Pushed, since each has 8 KiB, and would pass through a `try_collect` by value
+// (docs/DESIGN-PASS.md).
 pub(crate) fn collect_months(heap: Global) -> anyhow::Result<Vec<MarketMonth>> {
-    (0..MONTHS)
-        .map(|month| -> anyhow::Result<MarketMonth> { MarketMonth::collect(month) })
-        .try_collect(heap)
+    let mut months = Vec::new(heap);
+    for month in 0..MONTHS {
+        months.push(MarketMonth::collect(month)?)?;
+    }
+    Ok(months)
 }
