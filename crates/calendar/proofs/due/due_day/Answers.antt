@@ -1,4 +1,4 @@
-use Rattle.std.proofs.Common.{◌≡◌, ℕ, ◌+◌, true, sym, ◌∙◌, subst, arith}
+use Rattle.std.proofs.Common.{◌≡◌, ℕ, ◌+◌, true, Some, sym, ap, ◌∙◌, subst, arith}
 use Rattle.calendar.specs.Due.{span}
 use Rattle.calendar.proofs.Dues.{SoFar, hit, no-bank, early, no-business, at_most, none-due, law-of}
 use Rattle.calendar.proofs.due.due_day.Goals as goal
@@ -10,7 +10,8 @@ overflow_add-bank_days g c = omega (arith, at_most (g.C.Calendar.meaning c.args.
 pub returns-then-is_business_day : goal.returns-then-is_business_day
 returns-then-is_business_day g c =
     let m = g.C.Calendar.meaning c.args.calendar.now in
-    let rule = hit m c.args.invoice_day c.loop-after.after c.loop-after.bank_days c.loop-after.invariant (omega arith) (sym c.is_bank_business_day.ensures ∙ c.if-is_bank_business_day.true) (omega arith) (sym c.is_business_day.ensures ∙ c.if-is_business_day.true) in
+    let found = hit m c.args.invoice_day c.loop-after.after c.loop-after.bank_days c.loop-after.invariant (omega arith) (sym c.is_bank_business_day.ensures ∙ c.if-is_bank_business_day.true) (omega arith) (sym c.is_business_day.ensures ∙ c.if-is_business_day.true) in
+    let rule = ap Some (omega arith) ∙ found in
     record { rule = rule; law = law-of m c.args.invoice_day _ rule }
 
 pub loop-after-preserved : goal.loop-after-preserved
