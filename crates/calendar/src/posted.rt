@@ -18,13 +18,15 @@ impl<'a> Posted<'a> {
     }
 }
 
-// The two bits of a day, both 0 outside the row.
+// The two bits of a day, both 0 outside the row. Compared and then subtracted: with `checked_sub` a due day took 1.4
+// times as long (docs/DESIGN-PASS.md).
 fn day_bits(first: u16, row: &[u8], day: u16) -> u8
     ensures { result ≡ day_bits first row.now day }
 {
-    let Some(place) = day.checked_sub(first) else {
+    if day < first {
         return 0;
-    };
+    }
+    let place = day - first;
     let Some(byte) = row.get(usize::from(place / 4)) else {
         return 0;
     };
