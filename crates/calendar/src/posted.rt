@@ -18,8 +18,8 @@ impl<'a> Posted<'a> {
     }
 }
 
-// The two bits of a day, both 0 outside the row. Compared and then subtracted: with `checked_sub` a due day took 1.4
-// times as long (docs/DESIGN-PASS.md).
+// The two bits of a day, both 0 outside the row. Compared and then subtracted: with `checked_sub` a due day took 1.3
+// to 1.7 times as long (docs/DESIGN-PASS.md).
 fn day_bits(first: u16, row: &[u8], day: u16) -> u8
     ensures { result ≡ day_bits first row.now day }
 {

@@ -9,8 +9,8 @@ use crate::charge::{Charge, Issued};
 use crate::fault::Fault;
 use crate::invoice::{Invoice, State};
 
-// How many charges are above 0. Added up: counted behind a filter, a refused bill took three times as long
-// (docs/DESIGN-PASS.md).
+// How many charges are above 0. Added up: counted behind a filter, a refused bill took two to three times as
+// long (docs/DESIGN-PASS.md).
 fn positive_in(charges: &[Charge]) -> usize
     ensures value { result ≡ positive charges.now }
     ensures few { result ≤ length charges.now }
