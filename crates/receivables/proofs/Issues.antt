@@ -1,7 +1,8 @@
 -- Issuing invoices, one at a time. Assumes nothing.
-use Rattle.std.proofs.Common.{◌≡◌, ℕ, suc, ◌+◌, ◌<◌, ◌≤◌, true, false, cond, ltb, List, [], ◌∷◌, ◌++◌, length, sum_by, get_or, drop, sym, refl, ap, ◌∙◌, arith, length-append}
+use Rattle.std.proofs.Common.{◌≡◌, ℕ, ◌+◌, ◌<◌, ◌≤◌, true, false, cond, ltb, List, [], ◌∷◌, ◌++◌, length, get_or, drop, sym, refl, ap, ◌∙◌, arith, length-append}
 use Rattle.std.proofs.lemmas.List.{at_drop_more, append_assoc}
-use Rattle.std.proofs.lemmas.List.Sums.{sum_by-cons}
+use Rattle.std.specs.List.{count_by}
+use Rattle.std.proofs.lemmas.List.Recursion.{is_count_by}
 use Rattle.std.proofs.lemmas.Bool.{cond-true, cond-false, lt-ltb, le-ltb}
 use Rattle.receivables.specs.declared.charge.Charge.{Charge}
 use Rattle.receivables.specs.declared.invoice.Invoice.{Invoice}
@@ -43,18 +44,8 @@ module _ (cs : List Charge) (i : ℕ) (c : Charge) (here : c ≡ get_or cs i c) 
   issuing-no b due whole h so =
       rw (sym (positive-no h), sym (issued-no b.next due h)) so
 
--- a charge above 0 counts as 1
-pub positive-sum : (cs : List Charge) → sum_by (λ c. cond (ltb 0 c.cents) 1 0) cs ≡ positive cs
-positive-sum [] = refl
-positive-sum (c ∷ cs) =
-    sum_by-cons (λ d. cond (ltb 0 d.cents) 1 0) c cs ∙ ap (λ n. cond (ltb 0 c.cents) 1 0 + n) (positive-sum cs)
-    ∙ elim (ltb 0 c.cents) as (λ b. cond b 1 0 + positive cs ≡ cond b (1 + positive cs) (positive cs)) [ true ↦ refl | false ↦ omega arith ]
-
-pub positive-few : (cs : List Charge) → positive cs ≤ length cs
-positive-few [] = omega arith
-positive-few (c ∷ cs) =
-    let rest = positive-few cs in
-    elim (ltb 0 c.cents) as (λ b. cond b (1 + positive cs) (positive cs) ≤ suc (length cs)) [ true ↦ omega (arith, rest) | false ↦ omega (arith, rest) ]
+pub positive-count : (cs : List Charge) → count_by (λ c. ltb 0 c.cents) cs ≡ positive cs
+positive-count cs = sym (is_count_by positive (λ c. ltb 0 c.cents) refl (λ c ds. refl) cs)
 
 pub issued-length : (n due : ℕ) (cs : List Charge) → length (issued_from n due cs) ≡ positive cs
 issued-length n due [] = refl

@@ -1,10 +1,11 @@
-use Rattle.std.proofs.Common.{rules, ◌≡◌, ◌^◌, ◌≤◌, length, cond, ltb, sum_by, arith, ◌-◌, ◌∙◌}
+use Rattle.std.proofs.Common.{rules, ◌≡◌, ◌^◌, ◌-◌, ◌≤◌, length, ltb, arith, ◌∙◌}
 use borrow.Author.Tests.{tests}
+use Rattle.std.specs.List.{count_by}
 use Rattle.std.proofs.iter.runs.Made.{chains}
 use Rattle.std.proofs.lemmas.Iterator.{YieldsList-from_slice}
 use Rattle.std.proofs.lemmas.Iterator.Adapters.{fits_from_length, at_most_from_yields_List}
-use Rattle.receivables.specs.Issued.{positive}
-use Rattle.receivables.proofs.Issues.{positive-sum, positive-few}
+use Rattle.std.proofs.lemmas.List.Sums.{count_by-le-length}
+use Rattle.receivables.proofs.Issues.{positive-count}
 use Rattle.receivables.proofs.book.issues.positive_in.Goals as goal
 
 -- fewer charges than numbers, each counted once at most
@@ -15,6 +16,8 @@ sum-requires-clause-fits c =
 
 pub returns : goal.returns
 returns c =
-    let summed : c.sum.result ≡ sum_by (λ x. cond (ltb 0 x.cents) 1 0) c.args.charges.now = search (rules, chains) in
-    let value = summed ∙ positive-sum c.args.charges.now in
-    record { value = value; few = omega (arith, value, positive-few c.args.charges.now) }
+    let counted : c.sum.result ≡ count_by (λ charge. ltb 0 charge.cents) c.args.charges.now = search (rules, chains) in
+    record {
+      value = counted ∙ positive-count c.args.charges.now;
+      few = omega (arith, counted, count_by-le-length (λ charge. ltb 0 charge.cents) c.args.charges.now);
+    }
